@@ -1,0 +1,10 @@
+pub mod Tables
+pub mod Choice
+pub mod Depths
+pub mod Scale
+pub mod Planes
+pub mod Indexes
+pub mod Answer
+pub mod Call
+pub mod Flat
+pub mod Figures
