@@ -2,5 +2,3 @@ pub mod Rising
 pub mod Choosing
 pub mod Quotients
 pub mod Reaching
-pub mod Ordering
-pub mod Subtypes

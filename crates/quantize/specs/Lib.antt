@@ -6,5 +6,4 @@ pub mod Planes
 pub mod Indexes
 pub mod Answer
 pub mod Call
-pub mod Flat
 pub mod Figures

@@ -1,9 +1,7 @@
 // Theorems about the quantizer: the contract of each function here is one, and its result says nothing more.
-ghost use mathlib.Core.Path.{_≡_};
 ghost use Rattle.quantize.specs.Choice.{One-index};
 ghost use Rattle.quantize.specs.Depths.{Never-falls};
 ghost use Rattle.quantize.specs.Figures.{Figures};
-ghost use Rattle.quantize.specs.Flat.{Logs-ordered};
 ghost use Rattle.quantize.specs.Indexes.{All-brought};
 ghost use Rattle.quantize.specs.Scale.{Nothing-rounded};
 
@@ -31,13 +29,6 @@ pub fn reach_stands() -> u8
 // Every scale is exact.
 pub fn scales_stand() -> u8
     ensures { λ _. ⌜ Nothing-rounded ⌝ }
-{
-    0
-}
-
-// The logs of the AC entries never fall from one index to the next.
-pub fn logs_stand() -> u8
-    ensures { λ _. ⌜ Logs-ordered ⌝ }
 {
     0
 }

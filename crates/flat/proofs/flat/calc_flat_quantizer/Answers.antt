@@ -4,10 +4,10 @@ use native.Mathlib.Omega.{arith}
 use Prim.Native.Nat.{_^_}
 use lib.IntN.{ℤ, pos, negℤ}
 use lib.Signed.{_<ℤ_}
-use Rattle.quantize.specs.Flat.{flatBase, flatOf, logQ}
-use Rattle.quantize.proofs.Ordering.{logs-ordered}
-use Rattle.quantize.proofs.Subtypes.{log-q-in}
-use Rattle.quantize.proofs.flat.calc_flat_quantizer.Needs as need
+use Rattle.flat.specs.Flat.{flatBase, flatOf, logQ}
+use Rattle.flat.proofs.Ordering.{logs-ordered}
+use Rattle.flat.proofs.Subtypes.{log-q-in}
+use Rattle.flat.proofs.flat.calc_flat_quantizer.Needs as need
 
 pub returns : need.returns
 unfolding flatOf

@@ -1,6 +1,6 @@
 // The subtypes of coded frames, and how far the log quantizer of each lies from the base.
 ghost use mathlib.Core.Path.{_≡_};
-ghost use Rattle.quantize.specs.Flat.{subtypeOf, distance, logQ};
+ghost use Rattle.flat.specs.Flat.{subtypeOf, distance, logQ};
 
 // A key frame or other intra frame, a frame predicted from the past, and two levels of frames predicted from both sides.
 #[derive(Clone, Copy, PartialEq, Eq, Debug)]

@@ -7,9 +7,9 @@ use lib.Signed.{_≤ℤ_, _<ℤ_}
 use Rattle.std.specs.Numbers.{saturated}
 use Rattle.std.proofs.shelf.Signed.{ints}
 use Rattle.logexp.specs.Held.{_⊕_, _≪_, _≫_}
-use Rattle.quantize.specs.declared.subtype.Subtype.{Subtype}
-use Rattle.quantize.specs.declared.subtype.Subtype.the-variants.{I, P, B0, B1}
-use Rattle.quantize.specs.Flat.{distance, logQ}
+use Rattle.flat.specs.declared.subtype.Subtype.{Subtype}
+use Rattle.flat.specs.declared.subtype.Subtype.the-variants.{I, P, B0, B1}
+use Rattle.flat.specs.Flat.{distance, logQ}
 
 -- a figure that fits is held as it is
 held-same : (v : ℤ) → negℤ (pos (2 ^ 63)) ≤ℤ v → v <ℤ pos (2 ^ 63) → saturated 63 v ≡ v

@@ -12,12 +12,11 @@ use lib.IntN.{ℤ, pos, negℤ}
 use lib.Signed.{_≤ℤ_, _<ℤ_, ltZ, leZ}
 use Rattle.std.proofs.shelf.Signed.{ints}
 use Rattle.logexp.specs.LogExp.{computing}
 use Rattle.quantize.specs.Depths.{dcTable, acTable}
-use Rattle.quantize.specs.Choice.{index, Table}
-use Rattle.quantize.specs.Flat.{entryLog, acLog, flatLog, flatBase, Ordered, Logs-ordered}
+use Rattle.quantize.specs.Choice.{index}
+use Rattle.flat.specs.Flat.{entryLog, acLog, flatLog, flatBase, Ordered, Logs-ordered}
 use Rattle.quantize.specs.declared.depth.Depth.{Depth}
 use Rattle.quantize.specs.declared.depth.Depth.the-variants.{Eight, Ten, Twelve}
-use Rattle.quantize.proofs.Rising.{ac-table}
 
 module _ (f : ℕ → ℤ) where
   abbrev climbs : ℤ → List ℕ → Bool
@@ -55,16 +54,22 @@ module _ (f : ℕ → ℤ) where
   between : (a b c : ℤ) → a ≤ℤ b → b <ℤ c → a <ℤ c
   between a b c h k = omega (arith, ints)
 
-  pub ordered-by : (t : List ℕ) → Table t → T (test t) → Ordered (λ i. f (getD t i 0))
-  ordered-by t tab h =
+  pub ordered-by : (t : List ℕ) → length t ≡ 256 → T (test t) → Ordered (λ i. f (getD t i 0))
+  ordered-by t size h =
       let up = and-l (climbs (negℤ (pos (2 ^ 60 - 1))) t) (ltZ (f (getD t 255 0)) (pos (2 ^ 60))) h in
       let last : f (getD t 255 0) <ℤ pos (2 ^ 60) = record { lt = and-r (climbs (negℤ (pos (2 ^ 60 - 1))) t) (ltZ (f (getD t 255 0)) (pos (2 ^ 60))) h } in
-      let rise : (i j : ℕ) → i ≤ j → j < 256 → f (getD t i 0) ≤ℤ f (getD t j 0) = λ i j k l. rising _ t up i j k (rw (tab .size) l) in
+      let rise : (i j : ℕ) → i ≤ j → j < 256 → f (getD t i 0) ≤ℤ f (getD t j 0) = λ i j k l. rising _ t up i j k (rw (size) l) in
       record {
         rises = rise;
-        least = λ i l. under-by (f (getD t i 0)) (above _ t up i (rw (tab .size) l));
+        least = λ i l. under-by (f (getD t i 0)) (above _ t up i (rw (size) l));
         most = λ i l. between (f (getD t i 0)) (f (getD t 255 0)) (pos (2 ^ 60)) (rise i 255 (omega arith) (omega arith)) last;
       }
+
+ac-size : (d : Depth) → length (acTable d) ≡ 256
+unfolding acTable
+ac-size Eight = refl
+ac-size Ten = refl
+ac-size Twelve = refl
 
 -- the test of the AC entries' logs, over all 768
 ac-climbs : (d : Depth) → T (test (λ x. entryLog x d) (acTable d))
@@ -82,4 +87,4 @@ flat-climbs Twelve = tt
 
 pub logs-ordered : Logs-ordered
 unfolding acLog flatBase
-logs-ordered d = (ordered-by (λ x. entryLog x d) (acTable d) (ac-table d) (ac-climbs d), ordered-by (λ x. flatLog x d) (acTable d) (ac-table d) (flat-climbs d))
+logs-ordered d = (ordered-by (λ x. entryLog x d) (acTable d) (ac-size d) (ac-climbs d), ordered-by (λ x. flatLog x d) (acTable d) (ac-size d) (flat-climbs d))

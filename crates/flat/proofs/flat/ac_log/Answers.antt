@@ -4,14 +4,14 @@ use native.Mathlib.Omega.{arith}
 use mir.Syntax.{w64}
 use mir.Val.{SFits}
 use Rattle.std.proofs.shelf.Signed.{toZ-ofZ}
-use Rattle.quantize.specs.Flat.{acLog}
-use Rattle.quantize.proofs.Ordering.{logs-ordered}
-use Rattle.quantize.proofs.depth.Depth.ac_log.Needs as need
+use Rattle.flat.specs.Flat.{acLog}
+use Rattle.flat.proofs.Ordering.{logs-ordered}
+use Rattle.flat.proofs.flat.ac_log.Needs as need
 
 pub returns : need.returns
 unfolding acLog
 returns c =
-    let o = logs-ordered (c .args .self) .0 in
+    let o = logs-ordered (c .args .depth) .0 in
     let f : SFits w64 (c .entry-log .result) = search needs in
     let e = toZ-ofZ w64 (c .entry-log .result) f ∙ c .entry-log .ensures in
     record {
