@@ -14,7 +14,7 @@ use Rattle.std.proofs.shelf.Signed.{ints}
 use Rattle.logexp.specs.LogExp.{computing}
 use Rattle.quantize.specs.Depths.{dcTable, acTable}
 use Rattle.quantize.specs.Choice.{index}
-use Rattle.flat.specs.Flat.{entryLog, acLog, flatLog, flatBase, Ordered, Logs-ordered}
+use Rattle.flat.specs.Flat.{entryLog, acLog, flatLog, flatBase, Near, Ordered, Logs-ordered}
 use Rattle.quantize.specs.declared.depth.Depth.{Depth}
 use Rattle.quantize.specs.declared.depth.Depth.the-variants.{Eight, Ten, Twelve}
 
@@ -61,8 +61,10 @@ module _ (f : ℕ → ℤ) where
       let rise : (i j : ℕ) → i ≤ j → j < 256 → f (getD t i 0) ≤ℤ f (getD t j 0) = λ i j k l. rising _ t up i j k (rw (size) l) in
       record {
         rises = rise;
-        least = λ i l. under-by (f (getD t i 0)) (above _ t up i (rw (size) l));
-        most = λ i l. between (f (getD t i 0)) (f (getD t 255 0)) (pos (2 ^ 60)) (rise i 255 (omega arith) (omega arith)) last;
+        near = λ i l. record {
+          least = under-by (f (getD t i 0)) (above _ t up i (rw size l));
+          most = between (f (getD t i 0)) (f (getD t 255 0)) (pos (2 ^ 60)) (rise i 255 (omega arith) (omega arith)) last;
+        };
       }
 
 ac-size : (d : Depth) → length (acTable d) ≡ 256

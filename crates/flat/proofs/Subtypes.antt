@@ -9,7 +9,7 @@ use Rattle.std.proofs.shelf.Signed.{ints}
 use Rattle.logexp.specs.Held.{_⊕_, _≪_, _≫_}
 use Rattle.flat.specs.declared.subtype.Subtype.{Subtype}
 use Rattle.flat.specs.declared.subtype.Subtype.the-variants.{I, P, B0, B1}
-use Rattle.flat.specs.Flat.{distance, logQ}
+use Rattle.flat.specs.Flat.{distance, logQ, Near}
 
 -- a figure that fits is held as it is
 held-same : (v : ℤ) → negℤ (pos (2 ^ 63)) ≤ℤ v → v <ℤ pos (2 ^ 63) → saturated 63 v ≡ v
@@ -32,12 +32,14 @@ near B0 = (omega (arith, ints), omega (arith, ints))
 near B1 = (omega (arith, ints), omega (arith, ints))
 
 -- of a base within 8 doublings of 0, within 16
-pub log-q-in : (s : Subtype) (b : ℤ) → negℤ (pos (2 ^ 60)) <ℤ b → b <ℤ pos (2 ^ 60) → (negℤ (pos (2 ^ 61)) <ℤ logQ s b) × (logQ s b <ℤ pos (2 ^ 61))
+pub log-q-near : (s : Subtype) (b : ℤ) → Near 8 b → Near 16 (logQ s b)
 unfolding logQ
-log-q-in s b h g =
+log-q-near s b h =
+    let low = h .least in
+    let high = h .most in
     let m = bounded (b +ℤ pos (2 ^ 11)) (negℤ (pos (2 ^ 60))) (pos (2 ^ 60 + 2 ^ 11)) (omega (arith, ints)) (omega (arith, ints)) (omega (arith, ints)) (omega (arith, ints)) in
     let i = in-steps (b ⊕ pos (2 ^ 11)) (m .0) (m .1) in
     let k = bounded (((b ⊕ pos (2 ^ 11)) ≫ 12) *ℤ pos (2 ^ 12)) (negℤ (pos (2 ^ 60))) (pos (2 ^ 60)) (omega (arith, ints)) (omega (arith, ints)) (omega (arith, ints)) (omega (arith, ints)) in
     let n = near s in
     let o = bounded (((b ⊕ pos (2 ^ 11)) ≫ 12 ≪ 12) +ℤ distance s) (negℤ (pos (2 ^ 61 - 1))) (pos (2 ^ 61 - 1)) (omega (arith, ints)) (omega (arith, ints)) (omega (arith, ints)) (omega (arith, ints)) in
-    (omega (arith, ints), omega (arith, ints))
+    record { least = omega (arith, ints); most = omega (arith, ints) }

@@ -15,7 +15,12 @@ use Rattle.flat.specs.declared.subtype.Subtype.the-variants.{I, P, B0, B1}
 use Rattle.flat.specs.declared.flat.FlatQuantizer.{FlatQuantizer}
 use Rattle.quantize.specs.Choice.{index}
 use Rattle.quantize.specs.Depths.{dcTable, acTable}
-use Rattle.quantize.specs.Indexes.{depthLog}
+use Rattle.quantize.specs.Indexes.{doublings, depthLog}
+
+-- a log lies within k doublings of 0
+pub record Near (k : ℕ) (z : ℤ) : Type 0 where
+  pub least : negℤ (doublings k) <ℤ z
+  pub most : z <ℤ doublings k
 
 -- is the subtype 0, 1, 2 or 3?
 abbrev pub subtypeOf : ℕ → Option Subtype
@@ -61,14 +66,13 @@ unfoldable pub flatBase : ℕ → Depth → ℤ
 flatBase i d = flatLog (getD (acTable d) i 0) d
 
 -- the base log of an index, and the log of a subtype there
-unfoldable pub flatOf : ℕ → Depth → Subtype → FlatQuantizer
+abbrev pub flatOf : ℕ → Depth → Subtype → FlatQuantizer
 flatOf i d s = record { «log_base_q» = flatBase i d; «log_q» = logQ s (flatBase i d) }
 
 -- a log that never falls from index to index, and lies within 8 doublings of 0
 pub record Ordered (log : ℕ → ℤ) : Type 0 where
   pub rises : (i j : ℕ) → i ≤ j → j < 256 → log i ≤ℤ log j
-  pub least : (i : ℕ) → i < 256 → negℤ (pos (2 ^ 60)) <ℤ log i
-  pub most : (i : ℕ) → i < 256 → log i <ℤ pos (2 ^ 60)
+  pub near : (i : ℕ) → i < 256 → Near 8 (log i)
 
 -- so do the logs of the AC entries, and the base logs without rate control
 abbrev pub Logs-ordered : Type 0

@@ -1,9 +1,6 @@
 // The logs of AC entries, and the quantizer of an index without rate control.
-ghost use Prim.Native.Nat.{_^_};
 ghost use mathlib.Core.Path.{_≡_};
-ghost use lib.IntN.{pos, negℤ};
-ghost use lib.Signed.{_<ℤ_};
-ghost use Rattle.flat.specs.Flat.{entryLog, acLog, matching, middle, flatBase, flatOf, Logs-ordered};
+ghost use Rattle.flat.specs.Flat.{entryLog, acLog, matching, middle, flatBase, flatOf, Near, Logs-ordered};
 use crate::subtype::Subtype;
 use logexp::blog64;
 use quantize::Depth;
@@ -32,8 +29,7 @@ fn midway(a: i64, b: i64) -> i64
 // The log of the AC entry of an index, less depth - 5 doublings: between -8 and 8 doublings.
 pub fn ac_log(qindex: u8, depth: Depth) -> i64
     ensures value { λ r. ⌜ r ≡ acLog qindex depth ⌝ }
-    ensures least { λ r. ⌜ negℤ (pos (2 ^ 60)) <ℤ r ⌝ }
-    ensures most { λ r. ⌜ r <ℤ pos (2 ^ 60) ⌝ }
+    ensures near { λ r. ⌜ Near 8 r ⌝ }
 {
     entry_log(depth.ac_q(qindex), depth)
 }
@@ -46,22 +42,20 @@ fn matching_dc(entry: u16, depth: Depth) -> u16
 }
 
 // The base log of an index without rate control: midway between the logs of its AC entry and of the DC entry
-// that stands for it.
+// that stands for it. Between -8 and 8 doublings.
 pub fn flat_log(qindex: u8, depth: Depth) -> i64
     ensures value { λ r. ⌜ r ≡ flatBase qindex depth ⌝ }
-    ensures least { λ r. ⌜ negℤ (pos (2 ^ 60)) <ℤ r ⌝ }
-    ensures most { λ r. ⌜ r <ℤ pos (2 ^ 60) ⌝ }
+    ensures near { λ r. ⌜ Near 8 r ⌝ }
 {
     let ac = depth.ac_q(qindex);
     let dc = matching_dc(ac, depth);
     midway(entry_log(ac, depth), entry_log(dc, depth))
 }
 
-// The quantizer of a frame of a subtype at an index, without rate control.
+// The quantizer of a frame of a subtype at an index, without rate control: its log lies within 16 doublings of 0.
 pub fn calc_flat_quantizer(base_qi: u8, depth: Depth, subtype: Subtype) -> FlatQuantizer
     ensures value { λ r. ⌜ r ≡ flatOf «base_qi» depth subtype ⌝ }
-    ensures least { λ r. ⌜ negℤ (pos (2 ^ 61)) <ℤ r .«log_q» ⌝ }
-    ensures most { λ r. ⌜ r .«log_q» <ℤ pos (2 ^ 61) ⌝ }
+    ensures near { λ r. ⌜ Near 16 (r .«log_q») ⌝ }
 {
     let log_base_q = flat_log(base_qi, depth);
     FlatQuantizer {

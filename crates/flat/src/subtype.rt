@@ -1,6 +1,6 @@
 // The subtypes of coded frames, and how far the log quantizer of each lies from the base.
 ghost use mathlib.Core.Path.{_≡_};
-ghost use Rattle.flat.specs.Flat.{subtypeOf, distance, logQ};
+ghost use Rattle.flat.specs.Flat.{subtypeOf, distance, logQ, Near};
 
 // A key frame or other intra frame, a frame predicted from the past, and two levels of frames predicted from both sides.
 #[derive(Clone, Copy, PartialEq, Eq, Debug)]
@@ -41,9 +41,10 @@ impl Subtype {
     }
 
     // The log quantizer of a frame of this subtype, from the base log: the base to the nearest multiple of 2^12,
-    // and the subtype's distance.
+    // and the subtype's distance. A base within 8 doublings of 0 gives a log within 16.
     pub fn log_q(self, log_base_q: i64) -> i64
-        ensures { λ r. ⌜ r ≡ logQ self «log_base_q» ⌝ }
+        ensures value { λ r. ⌜ r ≡ logQ self «log_base_q» ⌝ }
+        ensures near { λ r. ⌜ (Near 8 «log_base_q» → Near 16 r) ⌝ }
     {
         let steps = log_base_q.saturating_add(1 << 11) >> 12;
         steps.saturating_mul(1 << 12).saturating_add(self.dqp())

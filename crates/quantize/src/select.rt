@@ -14,7 +14,8 @@ use crate::tables::DC_12;
 
 impl Depth {
     fn dc_table(self) -> &'static [u16; 256]
-        ensures { λ r. ⌜ now r ≡ dcTable self ⌝ }
+        ensures value { λ r. ⌜ now r ≡ dcTable self ⌝ }
+        ensures rule { λ r. ⌜ Table (now r) ⌝ }
     {
         match self {
             Depth::Eight => &DC_8,
@@ -24,7 +25,8 @@ impl Depth {
     }
 
     fn ac_table(self) -> &'static [u16; 256]
-        ensures { λ r. ⌜ now r ≡ acTable self ⌝ }
+        ensures value { λ r. ⌜ now r ≡ acTable self ⌝ }
+        ensures rule { λ r. ⌜ Table (now r) ⌝ }
     {
         match self {
             Depth::Eight => &AC_8,
@@ -87,7 +89,8 @@ fn lower_bound(table: &[u16; 256], q: u16) -> usize
 // equal entries, and of two neighbours the nearer by the logarithm.
 fn select_qi(quantizer: i64, table: &[u16; 256]) -> u8
     requires { ⌜ Table (now table) ⌝ }
-    ensures { λ r. ⌜ Chosen (now (table .entry)) quantizer r ⌝ }
+    ensures value { λ r. ⌜ r ≡ index (now (table .entry)) quantizer ⌝ }
+    ensures chosen { λ r. ⌜ Chosen (now (table .entry)) quantizer r ⌝ }
 {
     if quantizer < table[0] as i64 {
         return 0;
