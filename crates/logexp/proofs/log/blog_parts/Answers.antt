@@ -1,0 +1,20 @@
+use native.Mathlib.Omega.{arith}
+use Rattle.std.proofs.shelf.Signed.{ints}
+use Rattle.logexp.proofs.LogTurns.{z-near, frac-by, fraction-in, parts-whole, parts-other}
+use Rattle.logexp.proofs.log.blog_parts.Needs as need
+
+pub add-log-turns : need.add-log-turns
+add-log-turns c = omega (arith, ints, z-near (c .args .w) (c .pre .1 .0) (c .pre .1 .1))
+
+pub add-result : need.add-result
+add-result c =
+    let e = frac-by (c .args .w) (c .log-turns .result) (c .shr .result) (c .pre .1 .0) (c .pre .1 .1) (c .log-turns .ensures) (c .shr .ensures) in
+    omega (arith, ints, fraction-in (c .args .w) (c .pre .1 .0) (c .pre .1 .1))
+
+pub returns-then-w : need.returns-then-w
+returns-then-w c = omega (arith, ints, parts-whole (c .args .ipart) (c .args .w) (c .if-w .taken))
+
+pub returns-else-w : need.returns-else-w
+returns-else-w c =
+    let e = frac-by (c .args .w) (c .log-turns .result) (c .shr .result) (c .pre .1 .0) (c .pre .1 .1) (c .log-turns .ensures) (c .shr .ensures) in
+    omega (arith, ints, fraction-in (c .args .w) (c .pre .1 .0) (c .pre .1 .1), parts-other (c .args .ipart) (c .args .w) (c .if-w .left))
