@@ -7,7 +7,9 @@ ghost use mathlib.Core.Path.{_≡_};
 ghost use Rattle.logexp.specs.LogExp.{exp-turn, exp-turns, tail-turn, tail, scaled, rounded, bexp64};
 ghost use Rattle.logexp.specs.Bounds.{Exp-in, Tail-in};
 use crate::tables::step_of;
-use crate::turns::{along, shr, turned};
+use crate::turns::along;
+use crate::turns::shr;
+use crate::turns::turned;
 
 // The power w in Q61, and what is left of the logarithm in z.
 #[derive(Clone, Copy)]

@@ -1,6 +1,7 @@
 // Laws of the definitions, each the contract of a function.
 ghost use mathlib.Core.Path.{_≡_};
 ghost use Rattle.logexp.specs.Figures.{Figures-hold};
+ghost use Rattle.logexp.specs.Powers.{Power-test};
 
 // The worked figures hold of the definitions: their number.
 pub fn figures() -> u8
@@ -8,4 +9,12 @@ pub fn figures() -> u8
     ensures hold { λ _. ⌜ Figures-hold ⌝ }
 {
     5
+}
+
+// The digits tell the powers of two: for every place m, w & (w - 1) is 0 exactly at w = 2^m among
+// the numbers from 2^m to 2^(m + 1).
+pub fn power_test_stands() -> u8
+    ensures { λ _. ⌜ Power-test ⌝ }
+{
+    0
 }

@@ -9,4 +9,5 @@ mod turns;
 
 pub use exp::bexp64;
 pub use laws::figures;
+pub use laws::power_test_stands;
 pub use log::blog64;

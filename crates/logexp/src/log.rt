@@ -7,8 +7,10 @@ ghost use mathlib.Core.Path.{_≡_};
 ghost use Rattle.logexp.specs.Cordic.{step};
 ghost use Rattle.logexp.specs.LogExp.{log-turn, log-turns, moved, blog-parts, blog64};
 ghost use Rattle.logexp.specs.Bounds.{Log-in};
-use crate::tables::{atanh_at, step_of};
-use crate::turns::{along, shr};
+use crate::tables::atanh_at;
+use crate::tables::step_of;
+use crate::turns::along;
+use crate::turns::shr;
 
 // The hyperbolic cosine x and sine y in Q61, and the logarithm found so far, z in Q61.
 #[derive(Clone, Copy)]
@@ -60,13 +62,14 @@ fn moved(ipart: u32, n: u64) -> u64
     }
 }
 
-// The logarithm of w * 2^(ipart - 61): exact at a power of two, else rounded from Q61 to Q57.
+// The logarithm of w * 2^(ipart - 61): exact at a power of two, which shares no digit with the number
+// before it, else rounded from Q61 to Q57.
 fn blog_parts(ipart: u32, w: u64) -> i64
     requires { ⌜ ipart ≤ 62 ⌝ ∗ ⌜ 2 ^ 61 ≤ w ⌝ ∗ ⌜ w < 2 ^ 62 ⌝ }
     ensures { λ r. ⌜ r ≡ blog-parts ipart w ⌝ }
 {
     let whole = ipart as i64 * (1 << 57);
-    if w == 1 << 61 {
+    if w & (w - 1) == 0 {
         whole
     } else {
         whole + shr(log_turns(w) + 8, 4)

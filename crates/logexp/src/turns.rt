@@ -8,7 +8,8 @@ ghost use mir.Val.{SFits};
 ghost use Rattle.logexp.specs.Cordic.{along, shr};
 ghost use Rattle.logexp.specs.LogExp.{turned};
 ghost use Rattle.logexp.specs.Bounds.{z-bound};
-use crate::tables::{atanh_at, step_of};
+use crate::tables::atanh_at;
+use crate::tables::step_of;
 
 // a, or -a where s is negative.
 pub fn along(s: i64, a: i64) -> i64

@@ -1,6 +1,7 @@
 use native.Mathlib.Omega.{arith}
 use Rattle.std.proofs.shelf.Signed.{ints}
 use Rattle.logexp.proofs.LogTurns.{z-near, frac-by, fraction-in, parts-whole, parts-other}
+use Rattle.logexp.proofs.PowerTest.{power-test}
 use Rattle.logexp.proofs.log.blog_parts.Needs as need
 
 pub add-log-turns : need.add-log-turns
@@ -11,10 +12,10 @@ add-result c =
     let e = frac-by (c .args .w) (c .log-turns .result) (c .shr .result) (c .pre .1 .0) (c .pre .1 .1) (c .log-turns .ensures) (c .shr .ensures) in
     omega (arith, ints, fraction-in (c .args .w) (c .pre .1 .0) (c .pre .1 .1))
 
-pub returns-then-w : need.returns-then-w
-returns-then-w c = omega (arith, ints, parts-whole (c .args .ipart) (c .args .w) (c .if-w .taken))
+pub returns-then-w-eq0 : need.returns-then-w-eq0
+returns-then-w-eq0 c = omega (arith, ints, parts-whole (c .args .ipart) (c .args .w) (power-test 61 (c .args .w) (c .pre .1 .0) (c .pre .1 .1) .0 (c .if-w-eq0 .taken)))
 
-pub returns-else-w : need.returns-else-w
-returns-else-w c =
+pub returns-else-w-eq0 : need.returns-else-w-eq0
+returns-else-w-eq0 c =
     let e = frac-by (c .args .w) (c .log-turns .result) (c .shr .result) (c .pre .1 .0) (c .pre .1 .1) (c .log-turns .ensures) (c .shr .ensures) in
-    omega (arith, ints, fraction-in (c .args .w) (c .pre .1 .0) (c .pre .1 .1), parts-other (c .args .ipart) (c .args .w) (c .if-w .left))
+    omega (arith, ints, fraction-in (c .args .w) (c .pre .1 .0) (c .pre .1 .1), parts-other (c .args .ipart) (c .args .w) (λ e. c .if-w-eq0 .left (power-test 61 (c .args .w) (c .pre .1 .0) (c .pre .1 .1) .1 e)))
