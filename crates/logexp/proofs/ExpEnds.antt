@@ -120,3 +120,8 @@ bexp-by x p s r fx fp fs e h g q t =
 
 pub shr-bits : (x p : ℤ) (k : ℕ) → SFits w64 x → p ≡ shr (toZ w64 (ofZ w64 x)) k → p ≡ shr x k
 shr-bits x p k f e = e ∙ ap (λ v. shr v k) (toZ-ofZ w64 x f)
+
+-- the whole part of x
+pub whole-of : (x : ℤ) → ((shr x 57 *ℤ pos (2 ^ 57)) ≤ℤ x) × (x <ℤ ((shr x 57 +ℤ pos 1) *ℤ pos (2 ^ 57)))
+whole-of (pos n) = omega (arith, ints)
+whole-of (negsuc n) = omega (arith, ints)

@@ -5,6 +5,7 @@ ghost use lib.IntN.{ℤ, pos, negℤ, natAbs};
 ghost use lib.Signed.{_<ℤ_, _≤ℤ_};
 ghost use mathlib.Core.Path.{_≡_};
 ghost use Rattle.logexp.specs.LogExp.{exp-turn, exp-turns, tail-turn, tail, scaled, rounded, bexp64};
+ghost use Rattle.logexp.specs.Laws.{Exact-power};
 ghost use Rattle.logexp.specs.Bounds.{Exp-in, Tail-in};
 use crate::tables::step_of;
 use crate::turns::along;
@@ -112,6 +113,9 @@ fn rounded(w: i64, ipart: u32) -> i64
 pub fn bexp64(x: i64) -> i64
     ensures value { λ r. ⌜ r ≡ bexp64 x ⌝ }
     ensures near { λ r. ⌜ pos 0 ≤ℤ r ⌝ }
+    ensures below { λ r. ⌜ (x <ℤ pos 0 → r ≡ pos 0) ⌝ }
+    ensures above { λ r. ⌜ (pos (63 * 2 ^ 57) ≤ℤ x → r ≡ pos (2 ^ 63 - 1)) ⌝ }
+    ensures exact { λ r. ⌜ Exact-power x r ⌝ }
 {
     let ipart = shr(x, 57);
     if ipart < 0 {
