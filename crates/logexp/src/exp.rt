@@ -5,7 +5,7 @@ ghost use lib.IntN.{ℤ, pos, negℤ, natAbs};
 ghost use lib.Signed.{_<ℤ_, _≤ℤ_};
 ghost use mathlib.Core.Path.{_≡_};
 ghost use Rattle.logexp.specs.LogExp.{exp-turn, exp-turns, tail-turn, tail, scaled, rounded, bexp64};
-ghost use Rattle.logexp.specs.Laws.{Exact-power};
+ghost use Rattle.logexp.specs.Laws.{Exact-power, Power-band};
 ghost use Rattle.logexp.specs.Bounds.{Exp-in, Tail-in};
 use crate::tables::step_of;
 use crate::turns::along;
@@ -116,6 +116,8 @@ pub fn bexp64(x: i64) -> i64
     ensures below { λ r. ⌜ (x <ℤ pos 0 → r ≡ pos 0) ⌝ }
     ensures above { λ r. ⌜ (pos (63 * 2 ^ 57) ≤ℤ x → r ≡ pos (2 ^ 63 - 1)) ⌝ }
     ensures exact { λ r. ⌜ Exact-power x r ⌝ }
+    ensures band { λ r. ⌜ Power-band x r ⌝ }
+    ensures positive { λ r. ⌜ (pos 0 ≤ℤ x → pos 1 ≤ℤ r) ⌝ }
 {
     let ipart = shr(x, 57);
     if ipart < 0 {

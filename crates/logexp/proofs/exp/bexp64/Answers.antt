@@ -7,6 +7,7 @@ use Rattle.std.proofs.shelf.Signed.{ints, toZ-ofZ}
 use Rattle.logexp.specs.LogExp.{bexp64}
 use Rattle.logexp.proofs.ExpEnds.{bexp-low, bexp-top, bexp-by, shr-bits, whole-of}
 use Rattle.logexp.proofs.ExactPowers.{exact-power}
+use Rattle.logexp.proofs.ExpLaws.{power-band, positive}
 use Rattle.logexp.proofs.exp.bexp64.Needs as need
 
 pub returns-then-ipart-lt0 : need.returns-then-ipart-lt0
@@ -20,6 +21,8 @@ returns-then-ipart-lt0 c =
       below = λ h. omega (arith, ints);
       above = λ h. absurd (omega (arith, ints, w));
       exact = exact-power (c .args .x) _ v;
+      band = power-band (c .args .x) _ v;
+      positive = positive (c .args .x) _ v;
     }
 
 pub returns-then-ipart-ge63 : need.returns-then-ipart-ge63
@@ -33,6 +36,8 @@ returns-then-ipart-ge63 c =
       below = λ h. absurd (omega (arith, ints, w));
       above = λ h. omega (arith, ints);
       exact = exact-power (c .args .x) _ v;
+      band = power-band (c .args .x) _ v;
+      positive = positive (c .args .x) _ v;
     }
 
 pub returns : need.returns
@@ -47,4 +52,6 @@ returns c =
       below = λ h. absurd (omega (arith, ints, w));
       above = λ h. absurd (omega (arith, ints, w));
       exact = exact-power (c .args .x) _ v;
+      band = power-band (c .args .x) _ v;
+      positive = positive (c .args .x) _ v;
     }
