@@ -2,15 +2,13 @@
 -- the 30 turns of the low digits; without the low digits at most 2^31 is wanting.
 use Prim.Native.Nat.{ℕ, zero, suc, _+_, _-_, _*_, _/_, _^_, _≤_, _<_}
 use native.Mathlib.Omega.{arith}
-use native.Mathlib.Nat.{add-mul-div-right, add-suc, mul-le-mul-left}
 use mathlib.Core.Path.{_≡_, refl, sym, ap, _∙_, subst}
 use mathlib.Core.Bool.{Bool, true, false}
 use mathlib.Core.Logic.{_⊎_, inl, inr}
 use lib.IntN.{ℤ, pos, negsuc, negℤ, natAbs, _+ℤ_, _-ℤ_, _*ℤ_}
 use lib.Signed.{_<ℤ_, _≤ℤ_, leZ}
-use lib.Pow.{shr-mono}
 use Rattle.std.proofs.shelf.Signed.{ints}
-use Rattle.std.proofs.shelf.Bits.{pow-pos, shr-le}
+use Rattle.std.proofs.shelf.Bits.{shr-le}
 use borrow.Author.Tests.{clash}
 use Rattle.logexp.specs.Cordic.{step, along, shr}
 use Rattle.logexp.specs.Held.{held}
@@ -19,15 +17,8 @@ use Rattle.logexp.specs.Bounds.{Exp-in, Tail-in}
 use Rattle.logexp.specs.declared.exp.Exp.{Exp}
 use Rattle.logexp.specs.declared.exp.Tail.{Tail}
 use Rattle.logexp.proofs.ExpTurns.{grown, exp-turns-in, tail-turns-in}
+use Rattle.logexp.proofs.Ratios.{shrink}
 use Rattle.logexp.proofs.Walks.{Parts, walk, fall, covers, Gentle, Reached, covered}
-
--- what is left of a number after its 2^s-th part grows with the number
-shrink : (u v s : ℕ) → u ≤ v → u + v / 2 ^ s ≤ v + u / 2 ^ s
-shrink u v s h =
-    let d : v - u ≤ (v - u) * 2 ^ s = omega (arith, mul-le-mul-left (v - u) (pow-pos s)) in
-    let m : v ≤ u + (v - u) * 2 ^ s = omega arith in
-    let q : v / 2 ^ s ≤ u / 2 ^ s + (v - u) = rw (← add-mul-div-right u (v - u) (pow-pos s)) (shr-mono s m) in
-    omega arith
 
 -- ---- the parts of the first 34 turns
 

@@ -24,7 +24,7 @@ use Rattle.logexp.specs.declared.log.Log.{Log}
 use Rattle.logexp.proofs.TableRules.{below, step-small, atanh-small}
 use Rattle.logexp.proofs.ExpTurns.{along-of, along-bits, along-pos, along-neg}
 
-half : (n i : ℕ) → n / 2 ^ (i + 1) ≤ n / 2
+pub half : (n i : ℕ) → n / 2 ^ (i + 1) ≤ n / 2
 half n i =
     let e : 1 + i ≡ i + 1 = omega arith in
     subst (λ (j : ℕ). n / 2 ^ j ≤ n / 2) e (rw (← shr-shr n 1 i) (div-le-self (n / 2) (2 ^ i)))
@@ -181,7 +181,7 @@ frac-by w z s h g p q =
     let e : toZ w64 (ofZ w64 (toZ w64 (ofZ w64 z) +ℤ pos 8)) ≡ z +ℤ pos 8 = omega (arith, ints, z-near w h g) in
     q ∙ ap (λ v. shr v 4) e ∙ ap (λ v. shr (v +ℤ pos 8) 4) p
 
-below-pow : (j m : ℕ) → 2 ^ j < 2 ^ m → j < m
+pub below-pow : (j m : ℕ) → 2 ^ j < 2 ^ m → j < m
 below-pow j m h =
     elim (leb-tells m j) [
       | inl t ↦ absurd (omega (arith, pow-mono (t .1)))

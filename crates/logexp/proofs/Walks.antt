@@ -39,7 +39,7 @@ abbrev pub or-else : Bool → (Unit {0} → Bool) → Bool
 or-else true f = true
 or-else false f = f tt
 
-or-else-cases : (b : Bool) (f : Unit {0} → Bool) → or-else b f ≡ true → (b ≡ true) ⊎ (f tt ≡ true)
+pub or-else-cases : (b : Bool) (f : Unit {0} → Bool) → or-else b f ≡ true → (b ≡ true) ⊎ (f tt ≡ true)
 or-else-cases true f t = inl refl
 or-else-cases false f t = inr t
 
@@ -62,7 +62,7 @@ pub sign-of : (z : ℤ) → (z <ℤ pos 0) ⊎ (pos 0 ≤ℤ z)
 sign-of (pos n) = inr (omega (arith, ints))
 sign-of (negsuc n) = inl (omega (arith, ints))
 
-le-of : (a b : ℤ) → leZ a b ≡ true → a ≤ℤ b
+pub le-of : (a b : ℤ) → leZ a b ≡ true → a ≤ℤ b
 le-of a b t = grind (arith, ints)
 
 le-trans : (a b c : ℤ) → a ≤ℤ b → b ≤ℤ c → a ≤ℤ c

@@ -17,3 +17,9 @@ Power-band x r =
 -- the logarithm of a power of two is exact
 abbrev pub Exact-log : ℤ → ℤ → Type 0
 Exact-log n r = (k : ℕ) → k ≤ 62 → n ≡ pos (2 ^ k) → r ≡ pos (k * 2 ^ 57)
+
+-- the logarithm of a number from 2^m up to 2^(m + 1) lies from m up to m + 1
+abbrev pub Log-band : ℤ → ℤ → Type 0
+Log-band n r =
+    (m : ℕ) → pos (2 ^ m) ≤ℤ n → n <ℤ pos (2 ^ (m + 1))
+    → (pos (m * 2 ^ 57) ≤ℤ r) × (r ≤ℤ pos ((m + 1) * 2 ^ 57))

@@ -6,7 +6,7 @@ ghost use lib.Signed.{_<ℤ_, _≤ℤ_};
 ghost use mathlib.Core.Path.{_≡_};
 ghost use Rattle.logexp.specs.Cordic.{step};
 ghost use Rattle.logexp.specs.LogExp.{log-turn, log-turns, moved, blog-parts, blog64};
-ghost use Rattle.logexp.specs.Laws.{Exact-log};
+ghost use Rattle.logexp.specs.Laws.{Exact-log, Log-band};
 ghost use Rattle.logexp.specs.Bounds.{Log-in};
 use crate::tables::atanh_at;
 use crate::tables::step_of;
@@ -82,6 +82,7 @@ pub fn blog64(n: i64) -> i64
     ensures value { λ r. ⌜ r ≡ blog64 n ⌝ }
     ensures none { λ r. ⌜ (n <ℤ pos 1 → r ≡ negsuc 0) ⌝ }
     ensures exact { λ r. ⌜ Exact-log n r ⌝ }
+    ensures band { λ r. ⌜ Log-band n r ⌝ }
     ensures positive { λ r. ⌜ (pos 1 ≤ℤ n → pos 0 ≤ℤ r) ⌝ }
     ensures least { λ r. ⌜ ((m : ℕ) → pos (2 ^ m) ≤ℤ n → pos (m * 2 ^ 57) ≤ℤ (r +ℤ pos (2 ^ 54))) ⌝ }
     ensures most { λ r. ⌜ ((m : ℕ) → n <ℤ pos (2 ^ m) → r <ℤ pos ((m + 1) * 2 ^ 57)) ⌝ }
