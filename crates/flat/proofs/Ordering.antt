@@ -12,11 +12,11 @@ use lib.IntN.{ℤ, pos, negℤ}
 use lib.Signed.{_≤ℤ_, _<ℤ_, ltZ, leZ}
 use Rattle.std.proofs.shelf.Signed.{ints}
 use Rattle.logexp.specs.LogExp.{computing}
-use Rattle.quantize.specs.Depths.{dcTable, acTable}
-use Rattle.quantize.specs.Choice.{index}
+use Rattle.tables.specs.Depths.{dcTable, acTable}
+use Rattle.tables.specs.Choice.{index}
 use Rattle.flat.specs.Flat.{entryLog, acLog, flatLog, flatBase, Near, Ordered, Logs-ordered}
-use Rattle.quantize.specs.declared.depth.Depth.{Depth}
-use Rattle.quantize.specs.declared.depth.Depth.the-variants.{Eight, Ten, Twelve}
+use Rattle.tables.specs.declared.depth.Depth.{Depth}
+use Rattle.tables.specs.declared.depth.Depth.the-variants.{Eight, Ten, Twelve}
 
 module _ (f : ℕ → ℤ) where
   abbrev climbs : ℤ → List ℕ → Bool

@@ -9,13 +9,12 @@ use Rattle.std.specs.declared.option.Option.{Option}
 use Rattle.std.specs.declared.option.Option.the-variants.{Some, None}
 use Rattle.logexp.specs.Held.{_⊕_, _⊖_, _⊗_, _≪_, _≫_}
 use Rattle.logexp.specs.LogExp.{blog64}
-use Rattle.quantize.specs.declared.depth.Depth.{Depth}
+use Rattle.tables.specs.declared.depth.Depth.{Depth}
 use Rattle.flat.specs.declared.subtype.Subtype.{Subtype}
 use Rattle.flat.specs.declared.subtype.Subtype.the-variants.{I, P, B0, B1}
 use Rattle.flat.specs.declared.flat.FlatQuantizer.{FlatQuantizer}
-use Rattle.quantize.specs.Choice.{index}
-use Rattle.quantize.specs.Depths.{dcTable, acTable}
-use Rattle.quantize.specs.Indexes.{doublings, depthLog}
+use Rattle.tables.specs.Choice.{index}
+use Rattle.tables.specs.Depths.{dcTable, acTable, doublings, depthLog}
 
 -- a log lies within k doublings of 0
 pub record Near (k : ℕ) (z : ℤ) : Type 0 where

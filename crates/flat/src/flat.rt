@@ -3,7 +3,7 @@ ghost use mathlib.Core.Path.{_≡_};
 ghost use Rattle.flat.specs.Flat.{entryLog, acLog, matching, middle, flatBase, flatOf, Near, Logs-ordered};
 use crate::subtype::Subtype;
 use logexp::blog64;
-use quantize::Depth;
+use tables::Depth;
 
 // The log of the base and of a frame's quantizer, in Q57.
 #[derive(Clone, Copy)]

@@ -1,4 +1,2 @@
-pub mod Rising
-pub mod Choosing
 pub mod Quotients
 pub mod Reaching

@@ -5,18 +5,14 @@ use mathlib.Core.Bool.{Bool, true, false, cond}
 use mathlib.Core.List.{List, [], _∷_}
 use native.Mathlib.Omega.{arith}
 use lib.IntN.{ℤ}
-use Rattle.quantize.specs.declared.depth.Depth.{Depth}
+use Rattle.tables.specs.declared.depth.Depth.{Depth}
 use Rattle.quantize.specs.declared.sampling.ChromaSampling.{ChromaSampling}
 use Rattle.quantize.specs.declared.answer.QuantizerParameters.{QuantizerParameters}
 use Rattle.quantize.specs.declared.answer.Scales.{Scales}
 use Rattle.quantize.specs.declared.answer.Scales.the-variants.{Mono, Colour}
-use Rattle.quantize.specs.Choice.{index}
-use Rattle.quantize.specs.Depths.{acTable}
 use Rattle.quantize.specs.Planes.{monochrome, lumaLog, chromaU, chromaV}
-use Rattle.quantize.specs.Indexes.{within, planeQuantizer, scaleOf, lumaIndex, Goes-with, Brought, All-brought}
+use Rattle.quantize.specs.Indexes.{within, scaleOf, lumaIndex, Goes-with, Brought, All-brought}
 use Rattle.quantize.specs.Answer.{chroma, dcOf, acOf, scalesOf, scaleCount, parametersOf, Chroma-goes, Reaches, Lawful}
-use Rattle.quantize.proofs.Choosing.{index-small}
-use Rattle.quantize.proofs.Rising.{ac-table}
 use Rattle.quantize.proofs.Quotients.{scales-exact}
 
 goes : (a i : ℕ) → 1 ≤ a → a ≤ 255 → Goes-with a (within a i)
@@ -35,12 +31,10 @@ chroma-goes : (mono : Bool) (a i : ℕ) → 1 ≤ a → a ≤ 255 → Chroma-goe
 chroma-goes true a i h k = refl
 chroma-goes false a i h k = goes a i h k
 
-module _ (y : ℤ) (d : Depth) (s : ChromaSampling) (mean : ℤ) where
+-- luma's AC index is a byte
+module _ (y : ℤ) (d : Depth) (s : ChromaSampling) (mean : ℤ) (luma-most : lumaIndex y d mean ≤ 255) where
   luma-least : 1 ≤ lumaIndex y d mean
   luma-least = omega arith
-
-  luma-most : lumaIndex y d mean ≤ 255
-  luma-most = omega (arith, index-small (acTable d) (ac-table d) (planeQuantizer y d mean))
 
   pub reaches : Reaches s (dcOf y d s mean) (acOf y d s mean)
   reaches = record {
@@ -60,10 +54,10 @@ counted target y mean s = go (monochrome s)
     go true = refl
     go false = refl
 
-pub lawful : (logBase target : ℤ) (d : Depth) (s : ChromaSampling) (intra : Bool) (mean : ℤ) → Lawful s (parametersOf logBase target d s intra mean)
+lawful : (logBase target : ℤ) (d : Depth) (s : ChromaSampling) (intra : Bool) (mean : ℤ) → lumaIndex (lumaLog target d s intra) d mean ≤ 255 → Lawful s (parametersOf logBase target d s intra mean)
 unfolding parametersOf
-lawful logBase target d s intra mean = record {
-  indexes = reaches (lumaLog target d s intra) d s mean;
+lawful logBase target d s intra mean most = record {
+  indexes = reaches (lumaLog target d s intra) d s mean most;
   count = counted target (lumaLog target d s intra) mean s;
   exact = scales-exact target (lumaLog target d s intra) mean s;
 }
@@ -78,5 +72,5 @@ whole logBase target d s intra mean r b t dc ac sc =
     let e : _≡_ {A = QuantizerParameters} (record { «log_base_q» = r .«log_base_q»; «log_target_q» = r .«log_target_q»; «dc_qi» = r .«dc_qi»; «ac_qi» = r .«ac_qi»; scales = r .scales }) (parametersOf logBase target d s intra mean) = rw (b, t, dc, ac, sc) in
     e
 
-pub whole-lawful : (logBase target : ℤ) (d : Depth) (s : ChromaSampling) (intra : Bool) (mean : ℤ) (r : QuantizerParameters) → r ≡ parametersOf logBase target d s intra mean → Lawful s r
-whole-lawful logBase target d s intra mean r e = subst (Lawful s) (sym e) (lawful logBase target d s intra mean)
+pub whole-lawful : (logBase target : ℤ) (d : Depth) (s : ChromaSampling) (intra : Bool) (mean : ℤ) (r : QuantizerParameters) → lumaIndex (lumaLog target d s intra) d mean ≤ 255 → r ≡ parametersOf logBase target d s intra mean → Lawful s r
+whole-lawful logBase target d s intra mean r most e = subst (Lawful s) (sym e) (lawful logBase target d s intra mean most)

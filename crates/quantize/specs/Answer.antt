@@ -7,7 +7,7 @@ use lib.IntN.{ℤ}
 use lib.Ieee.{Float}
 use lib.ListN.{getD}
 use Rattle.std.specs.shelf.Lists.{All}
-use Rattle.quantize.specs.declared.depth.Depth.{Depth}
+use Rattle.tables.specs.declared.depth.Depth.{Depth}
 use Rattle.quantize.specs.declared.sampling.ChromaSampling.{ChromaSampling}
 use Rattle.quantize.specs.declared.answer.Scales.{Scales}
 use Rattle.quantize.specs.declared.answer.Scales.the-variants.{Mono, Colour}

@@ -8,13 +8,13 @@ use Rattle.std.specs.declared.option.Option.{Option}
 use Rattle.std.specs.declared.option.Option.the-variants.{Some, None}
 use Rattle.std.specs.declared.result.Result.{Result}
 use Rattle.std.specs.declared.result.Result.the-variants.{Ok, Err}
-use Rattle.quantize.specs.declared.depth.Depth.{Depth}
+use Rattle.tables.specs.declared.depth.Depth.{Depth}
 use Rattle.quantize.specs.declared.sampling.ChromaSampling.{ChromaSampling}
 use Rattle.quantize.specs.declared.answer.QuantizerParameters.{QuantizerParameters}
 use Rattle.quantize.specs.declared.answer.Refusal.{Refusal}
 use Rattle.quantize.specs.declared.answer.Refusal.the-variants.{NoSuchDepth, NoSuchSampling}
-use Rattle.quantize.specs.Choice.{index}
-use Rattle.quantize.specs.Depths.{depthOf, dcTable, acTable}
+use Rattle.tables.specs.Choice.{index}
+use Rattle.tables.specs.Depths.{depthOf, dcTable, acTable}
 use Rattle.quantize.specs.Planes.{samplingOf}
 use Rattle.quantize.specs.Answer.{parametersOf}
 

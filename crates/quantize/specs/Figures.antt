@@ -2,8 +2,8 @@
 use Prim.Native.Nat.{ℕ}
 use mathlib.Core.Path.{_≡_}
 use lib.IntN.{pos}
-use Rattle.quantize.specs.Tables.{ac8, dc8}
-use Rattle.quantize.specs.Choice.{index}
+use Rattle.tables.specs.Tables.{ac8, dc8}
+use Rattle.tables.specs.Choice.{index}
 use Rattle.quantize.specs.Indexes.{lowest, highest}
 
 pub record Figures : Type 0 where

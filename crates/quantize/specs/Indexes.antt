@@ -1,14 +1,13 @@
 -- The index of each plane from the log of its quantizer.
-use Prim.Native.Nat.{ℕ, _+_, _-_, _*_, _^_, _≤_, _<_, min, max}
+use Prim.Native.Nat.{ℕ, _+_, _-_, _≤_, _<_, min, max}
 use mathlib.Core.Path.{_≡_}
 use lib.IntN.{ℤ, pos}
 use lib.Ieee.{Float}
 use Rattle.logexp.specs.Held.{_⊕_, _⊖_, _⊗_}
 use Rattle.logexp.specs.LogExp.{bexp64}
-use Rattle.quantize.specs.declared.depth.Depth.{Depth}
-use Rattle.quantize.specs.declared.depth.Depth.the-variants.{Eight, Ten, Twelve}
-use Rattle.quantize.specs.Choice.{index}
-use Rattle.quantize.specs.Depths.{dcTable, acTable}
+use Rattle.tables.specs.declared.depth.Depth.{Depth}
+use Rattle.tables.specs.Choice.{index}
+use Rattle.tables.specs.Depths.{dcTable, acTable, doublings, depthLog}
 use Rattle.quantize.specs.Scale.{quotient, kept}
 
 -- how far an index may lie from the luma AC index
@@ -25,16 +24,6 @@ highest a = min 255 (a + reach)
 -- an index brought between the two
 abbrev pub within : ℕ → ℕ → ℕ
 within a i = max (lowest a) (min i (highest a))
-
--- a log has 2^57 steps to a doubling
-abbrev pub doublings : ℕ → ℤ
-doublings k = pos (k * 2 ^ 57)
-
--- depth - 5 doublings
-abbrev pub depthLog : Depth → ℤ
-depthLog Eight = doublings 3
-depthLog Ten = doublings 5
-depthLog Twelve = doublings 7
 
 -- the quantizer of a plane with the log q, in the scale of the tables
 abbrev pub planeQuantizer : ℤ → Depth → ℤ → ℤ

@@ -1,6 +1,3 @@
-pub mod Tables
-pub mod Choice
-pub mod Depths
 pub mod Scale
 pub mod Planes
 pub mod Indexes

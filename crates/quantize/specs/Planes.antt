@@ -7,8 +7,8 @@ use Rattle.std.specs.Numbers.{maxZ}
 use Rattle.std.specs.declared.option.Option.{Option}
 use Rattle.std.specs.declared.option.Option.the-variants.{Some, None}
 use Rattle.logexp.specs.Held.{_⊕_, _⊖_, _⊗_, _≫_}
-use Rattle.quantize.specs.declared.depth.Depth.{Depth}
-use Rattle.quantize.specs.declared.depth.Depth.the-variants.{Eight, Ten, Twelve}
+use Rattle.tables.specs.declared.depth.Depth.{Depth}
+use Rattle.tables.specs.declared.depth.Depth.the-variants.{Eight, Ten, Twelve}
 use Rattle.quantize.specs.declared.sampling.ChromaSampling.{ChromaSampling}
 use Rattle.quantize.specs.declared.sampling.ChromaSampling.the-variants.{Cs420, Cs422, Cs444, Cs400}
 

@@ -1,15 +1,15 @@
 // The quantizer's calls with raw numbers, each of which refuses a bad depth and, where it takes one, a bad sampling.
 ghost use mathlib.Core.Path.{_≡_};
 ghost use lib.ListN.{getD};
-ghost use Rattle.quantize.specs.Choice.{Chosen};
-ghost use Rattle.quantize.specs.Depths.{dcTable, acTable};
+ghost use Rattle.tables.specs.Choice.{Chosen};
+ghost use Rattle.tables.specs.Depths.{dcTable, acTable};
 ghost use Rattle.quantize.specs.Planes.{samplingOf};
 ghost use Rattle.quantize.specs.Answer.{Lawful};
 ghost use Rattle.quantize.specs.Call.{depthAsked, samplingAsked, dcAnswer, acAnswer, selectDcAnswer, selectAcAnswer, quantizerAnswer, At-depth, At-sampling};
 use crate::answer::QuantizerParameters;
 use crate::answer::Refusal;
-use crate::depth::Depth;
 use crate::sampling::ChromaSampling;
+use tables::Depth;
 
 // The depth of that many bits, or refusal 4.
 fn depth_of(bit_depth: u8) -> Result<Depth, Refusal>

@@ -1,19 +1,16 @@
-// AV1's quantizer: the six tables, the index that stands for a quantizer, and the indexes and plane
-// scales of a frame from its log quantizer. It rests on `logexp` alone.
+// AV1's quantizer: the calls with raw numbers, and the indexes and plane scales of a frame from its log
+// quantizer. It rests on `logexp` and `tables`.
 //
 // `ac_q`, `dc_q`, `select_ac_qi`, `select_dc_qi` and `QuantizerParameters::new_from_log_q` take raw numbers
-// and refuse a bad one. The methods of `Depth`, and `QuantizerParameters::of`, are the same for a depth and
+// and refuse a bad one. The methods of `tables::Depth`, and `QuantizerParameters::of`, are the same for a depth and
 // a sampling that are known, for crates above that have asked already.
 mod answer;
 mod call;
-mod depth;
 mod laws;
 mod parameters;
 mod planes;
 mod sampling;
 mod scale;
-mod select;
-mod tables;
 
 pub use answer::QuantizerParameters;
 pub use answer::QuantizerParametersDebug;
@@ -28,14 +25,9 @@ pub use call::ac_q;
 pub use call::dc_q;
 pub use call::select_ac_qi;
 pub use call::select_dc_qi;
-pub use depth::Depth;
-pub use depth::DepthDebug;
-pub use depth::DepthPartialEq;
-pub use laws::choice_stands;
 pub use laws::figures_stand;
 pub use laws::reach_stands;
 pub use laws::scales_stand;
-pub use laws::tables_stand;
 pub use sampling::ChromaSampling;
 pub use sampling::ChromaSamplingDebug;
 pub use sampling::ChromaSamplingPartialEq;

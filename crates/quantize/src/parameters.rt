@@ -1,32 +1,18 @@
 // The indexes and scales of a frame, for a depth and a sampling that are known.
 ghost use mathlib.Core.Path.{_≡_};
-ghost use Rattle.quantize.specs.Indexes.{within, depthLog, planeQuantizer, scaleOf, dcIndex, acIndex, lumaIndex};
+ghost use Rattle.quantize.specs.Indexes.{within, planeQuantizer, scaleOf, dcIndex, acIndex, lumaIndex};
 ghost use Rattle.quantize.specs.Answer.{parametersOf, Lawful};
 use crate::answer::QuantizerParameters;
 use crate::answer::Scales;
-use crate::depth::Depth;
 use crate::planes::chroma_offset;
 use crate::planes::luma_log;
 use crate::sampling::ChromaSampling;
 use crate::scale::plane_scale;
 use logexp::bexp64;
+use tables::Depth;
 
 // How far an index may lie from the luma AC index: AV1's delta fields have six bits and a sign.
 const REACH: u8 = 63;
-
-// The log of the entries' scale at a depth, depth - 5 doublings: the tables hold eighths, and 4 times as many for
-// each two bits of depth.
-impl Depth {
-    pub fn log_scale(self) -> i64
-        ensures { λ r. ⌜ r ≡ depthLog self ⌝ }
-    {
-        match self {
-            Depth::Eight => 3 << 57,
-            Depth::Ten => 5 << 57,
-            Depth::Twelve => 7 << 57,
-        }
-    }
-}
 
 // An index brought within reach of the luma AC index a, and to at least 1.
 fn clamp_qi(qi: u8, a: u8) -> u8

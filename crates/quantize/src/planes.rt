@@ -1,8 +1,8 @@
 // The log quantizers of a frame's planes, from the frame's own.
 ghost use mathlib.Core.Path.{_≡_};
 ghost use Rattle.quantize.specs.Planes.{offsetU, offsetV, gradient, modelMul, modelAdd, lumaLog};
-use crate::depth::Depth;
 use crate::sampling::ChromaSampling;
+use tables::Depth;
 
 // How far the log quantizers of U and V lie from that of luma.
 #[derive(Clone, Copy)]

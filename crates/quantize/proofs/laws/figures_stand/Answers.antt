@@ -1,5 +1,5 @@
 use mathlib.Core.Path.{refl}
-use Rattle.quantize.specs.Choice.{index}
+use Rattle.tables.specs.Choice.{index}
 use Rattle.quantize.proofs.laws.figures_stand.Needs as need
 
 pub returns : need.returns

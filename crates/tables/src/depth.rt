@@ -1,6 +1,6 @@
 // The bit depths of AV1.
 ghost use mathlib.Core.Path.{_≡_};
-ghost use Rattle.quantize.specs.Depths.{depthOf};
+ghost use Rattle.tables.specs.Depths.{depthOf, depthLog};
 
 // How many bits a sample has.
 #[derive(Clone, Copy, PartialEq, Eq, Debug)]
@@ -20,6 +20,18 @@ impl Depth {
             10 => Some(Depth::Ten),
             12 => Some(Depth::Twelve),
             _ => None,
+        }
+    }
+
+    // The log in Q57 of the tables' unit at this depth, depth - 5 doublings: entries are eighths at 8 bits, and 4
+    // times as large for each two bits more.
+    pub fn log_scale(self) -> i64
+        ensures { λ r. ⌜ r ≡ depthLog self ⌝ }
+    {
+        match self {
+            Depth::Eight => 3 << 57,
+            Depth::Ten => 5 << 57,
+            Depth::Twelve => 7 << 57,
         }
     }
 }

@@ -2,8 +2,8 @@
 ghost use mathlib.Core.Path.{_≡_};
 ghost use Prim.Native.Nat.{ℕ, _-_, _<_, _≤_};
 ghost use lib.ListN.{getD};
-ghost use Rattle.quantize.specs.Choice.{Table, Chosen, index};
-ghost use Rattle.quantize.specs.Depths.{dcTable, acTable};
+ghost use Rattle.tables.specs.Choice.{Table, Chosen, index};
+ghost use Rattle.tables.specs.Depths.{dcTable, acTable};
 use crate::depth::Depth;
 use crate::tables::AC_8;
 use crate::tables::AC_10;

@@ -1,8 +1,8 @@
 use mathlib.Core.Path.{sym, ap}
-use Rattle.quantize.specs.declared.depth.Depth.the-variants.{Eight, Ten, Twelve}
-use Rattle.quantize.specs.Depths.{dcTable}
-use Rattle.quantize.proofs.Rising.{dc-table}
-use Rattle.quantize.proofs.depth.Depth.dc_table.Needs as need
+use Rattle.tables.specs.declared.depth.Depth.the-variants.{Eight, Ten, Twelve}
+use Rattle.tables.specs.Depths.{dcTable}
+use Rattle.tables.proofs.Rising.{dc-table}
+use Rattle.tables.proofs.depth.Depth.dc_table.Needs as need
 
 pub returns-in-Eight : need.returns-in-Eight
 unfolding dcTable

@@ -1,8 +1,8 @@
 use mathlib.Core.Path.{sym, ap}
-use Rattle.quantize.specs.declared.depth.Depth.the-variants.{Eight, Ten, Twelve}
-use Rattle.quantize.specs.Depths.{acTable}
-use Rattle.quantize.proofs.Rising.{ac-table}
-use Rattle.quantize.proofs.depth.Depth.ac_table.Needs as need
+use Rattle.tables.specs.declared.depth.Depth.the-variants.{Eight, Ten, Twelve}
+use Rattle.tables.specs.Depths.{acTable}
+use Rattle.tables.proofs.Rising.{ac-table}
+use Rattle.tables.proofs.depth.Depth.ac_table.Needs as need
 
 pub returns-in-Eight : need.returns-in-Eight
 unfolding acTable

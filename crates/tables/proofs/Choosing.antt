@@ -12,7 +12,7 @@ use lib.Signed.{_<ℤ_, _≤ℤ_, ltZ, leZ}
 use lib.Dec.{ltb, T}
 use Rattle.std.proofs.shelf.Signed.{ints, by-ltZ}
 use Rattle.std.proofs.shelf.Tests.{cases-order, cases-lt, cond-true, cond-false, lt-ltb, le-ltb}
-use Rattle.quantize.specs.Choice.{Table, Chosen, step, under, nearer, index, One-index}
+use Rattle.tables.specs.Choice.{Table, Chosen, step, under, nearer, index, One-index}
 
 module _ (t : List ℕ) (tab : Table t) where
   up-to : (i j : ℕ) → i ≤ j → j < 256 → getD t i 0 ≤ getD t j 0
@@ -208,20 +208,3 @@ index-chosen t tab q =
 
 pub one-index : One-index
 one-index t tab q = (index-chosen t tab q, index-is t tab q)
-
-nearer-small : (t : List ℕ) (q : ℤ) (k : ℕ) → nearer t q k ≤ k
-nearer-small t q k = go (leZ (pos (getD t k 0)) q) (ltZ (q *ℤ q) (pos (getD t (k - 1) 0 * getD t k 0)))
-  where
-    go : (a b : Bool) → cond a k (cond b (k - 1) k) ≤ k
-    go true b = omega arith
-    go false true = omega arith
-    go false false = omega arith
-
--- an index of a table of 256 is at most 255
-pub index-small : (t : List ℕ) → Table t → (q : ℤ) → index t q ≤ 255
-index-small t tab q =
-    by-ltZ q (pos (getD t 0 0))
-    (λ h. omega (arith, outside-low t q h))
-    (λ g. by-ltZ q (pos (getD t 255 0))
-    (λ h. let s = some t tab q g h in omega (arith, inside t tab q g h, nearer-small t q (under q t)))
-    (λ h. omega (arith, outside-high t q g h)))
