@@ -1,0 +1,3 @@
+-- The root of the lemmas.
+pub mod Octave
+pub mod Undo

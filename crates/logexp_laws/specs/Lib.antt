@@ -1,0 +1,2 @@
+-- The root of the definitions.
+pub mod Undone
