@@ -3,12 +3,15 @@ ghost use mathlib.Core.Path.{_≡_};
 ghost use Rattle.logexp.specs.Figures.{Figures-hold};
 ghost use Rattle.logexp.specs.Powers.{Power-test};
 
+// How many worked figures there are.
+const FIGURES: u8 = 5;
+
 // The worked figures hold of the definitions: their number.
 pub fn figures() -> u8
     ensures count { λ r. ⌜ r ≡ 5 ⌝ }
     ensures hold { λ _. ⌜ Figures-hold ⌝ }
 {
-    5
+    FIGURES
 }
 
 // The digits tell the powers of two: for every place m, w & (w - 1) is 0 exactly at w = 2^m among
