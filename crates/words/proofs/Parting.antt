@@ -1,4 +1,4 @@
--- How a walk over the bytes of a line finds its words.
+-- How a walk over the bytes of a text finds its lines, and over those of a line its words.
 use mathlib.Core.Path.{_≡_, refl, ap, sym, subst, _∙_}
 use mathlib.Core.Bool.{Bool, true, false, cond}
 use mathlib.Core.List.{List, [], _∷_, _++_, append-assoc, append-nil}
@@ -49,10 +49,6 @@ pub ended-some : (w : List ℕ) (ws : List (List ℕ)) → 0 < length w → ende
 ended-some [] ws l = absurd (omega (arith, l))
 ended-some (c ∷ cs) ws l = refl
 
-ended-before : (w : List ℕ) (ws : List (List ℕ)) → ended w ws ≡ ended w [] ++ ws
-ended-before [] ws = refl
-ended-before (c ∷ cs) ws = refl
-
 -- the text from a place up to a later one, and one byte more
 span-more : (bs : List ℕ) (start i : ℕ) → start ≤ i → i < length bs → take (i + 1 - start) (drop start bs) ≡ take (i - start) (drop start bs) ++ (getD bs i 0 ∷ [])
 span-more bs start i s l =
@@ -62,41 +58,57 @@ span-more bs start i s l =
     let e = getD-drop start bs (i - start) 0 in
     ap (λ (k : ℕ). take k (drop start bs)) a ∙ take-more (drop start bs) (i - start) 0 d ∙ ap (λ (x : ℕ). take (i - start) (drop start bs) ++ (x ∷ [])) (e ∙ ap (λ (k : ℕ). getD bs k 0) b)
 
-going-on : (bs : List ℕ) (start i : ℕ) → start ≤ i → i < length bs → asciiWhite (getD bs i 0) ≡ false
-    → parted (take (i - start) (drop start bs)) (drop i bs) ≡ parted (take (i + 1 - start) (drop start bs)) (drop (i + 1) bs)
-going-on bs start i s l e =
-    ap (parted (take (i - start) (drop start bs))) (drop-more bs i 0 l) ∙ rw (e, span-more bs start i s l) refl
+-- how a list of pieces is put together, and where a text is cut: at ASCII bytes
+pub record Parts (add : List ℕ → List (List ℕ) → List (List ℕ)) (test : ℕ → Bool) : Type 0 where
+  pub before : (w : List ℕ) (ws : List (List ℕ)) → add w ws ≡ add w [] ++ ws
+  pub ascii : (c : ℕ) → test c ≡ true → c < 128
 
-cutting : (bs : List ℕ) (start i : ℕ) → i < length bs → asciiWhite (getD bs i 0) ≡ true
-    → parted (take (i - start) (drop start bs)) (drop i bs) ≡ ended (take (i - start) (drop start bs)) [] ++ parted [] (drop (i + 1) bs)
-cutting bs start i l e =
-    ap (parted (take (i - start) (drop start bs))) (drop-more bs i 0 l) ∙ rw e (ended-before (take (i - start) (drop start bs)) (parted [] (drop (i + 1) bs)))
+ended-before : (w : List ℕ) (ws : List (List ℕ)) → ended w ws ≡ ended w [] ++ ws
+ended-before [] ws = refl
+ended-before (c ∷ cs) ws = refl
 
-at-end : (bs : List ℕ) (start i : ℕ) → length bs ≤ i → parted (take (i - start) (drop start bs)) (drop i bs) ≡ ended (take (i - start) (drop start bs)) []
-at-end bs start i l = ap (parted (take (i - start) (drop start bs))) (drop-all i bs l)
+pub words-parts : Parts ended asciiWhite
+words-parts = record { before = ended-before; ascii = λ c e. grind (arith, e) }
 
--- ws are the words of bs up to the place start, where the word begins that has come up to i
-abbrev pub Found : List ℕ → List (List ℕ) → ℕ → ℕ → Type 0
-Found bs ws start i = (start ≤ i) × Boundary bs start × (ws ++ parted (take (i - start) (drop start bs)) (drop i bs) ≡ parted [] bs)
+pub lines-parts : Parts (λ line later. line ∷ later) (λ c. eqb c 10)
+lines-parts = record { before = λ w ws. refl; ascii = λ c e. grind (arith, e) }
 
-pub found-none : (bs : List ℕ) → Utf8 bs → Found bs [] 0 0
-found-none bs u = (omega arith, boundary-start bs u, refl)
+module _ {add : List ℕ → List (List ℕ) → List (List ℕ)} {test : ℕ → Bool} (p : Parts add test) (bs : List ℕ) where
+  going-on : (start i : ℕ) → start ≤ i → i < length bs → test (getD bs i 0) ≡ false
+      → parted add test (take (i - start) (drop start bs)) (drop i bs) ≡ parted add test (take (i + 1 - start) (drop start bs)) (drop (i + 1) bs)
+  going-on start i s l e =
+      ap (parted add test (take (i - start) (drop start bs))) (drop-more bs i 0 l) ∙ rw (e, span-more bs start i s l) refl
 
--- a byte that is no white space goes on with the word
-pub found-more : (bs : List ℕ) (ws : List (List ℕ)) (start i : ℕ) → i < length bs → asciiWhite (getD bs i 0) ≡ false → Found bs ws start i → Found bs ws start (i + 1)
-found-more bs ws start i l e (s, b, h) = (omega arith, b, ap (λ (r : List (List ℕ)). ws ++ r) (sym (going-on bs start i s l e)) ∙ h)
+  cutting : (start i : ℕ) → i < length bs → test (getD bs i 0) ≡ true
+      → parted add test (take (i - start) (drop start bs)) (drop i bs) ≡ add (take (i - start) (drop start bs)) [] ++ parted add test [] (drop (i + 1) bs)
+  cutting start i l e =
+      ap (parted add test (take (i - start) (drop start bs))) (drop-more bs i 0 l) ∙ rw e (p .before (take (i - start) (drop start bs)) (parted add test [] (drop (i + 1) bs)))
 
--- white space ends the word, and another may begin after it
-pub found-cut : (bs : List ℕ) (ws vs : List (List ℕ)) (start i : ℕ) → Utf8 bs → i < length bs → asciiWhite (getD bs i 0) ≡ true
-    → Found bs ws start i → vs ≡ ws ++ ended (take (i - start) (drop start bs)) [] → Found bs vs (i + 1) (i + 1)
-found-cut bs ws vs start i u l e (s, b, h) v =
-    let z : i + 1 - (i + 1) ≡ 0 = omega arith in
-    let low : getD bs i 0 < 128 = grind (arith, e) in
-    (omega arith, boundary-after-ascii bs i u l low, rw (z, v) (append-assoc ws (ended (take (i - start) (drop start bs)) []) (parted [] (drop (i + 1) bs)) ∙ ap (λ (r : List (List ℕ)). ws ++ r) (sym (cutting bs start i l e)) ∙ h))
+  at-end : (start i : ℕ) → length bs ≤ i → parted add test (take (i - start) (drop start bs)) (drop i bs) ≡ add (take (i - start) (drop start bs)) []
+  at-end start i l = ap (parted add test (take (i - start) (drop start bs))) (drop-all i bs l)
 
--- at the end of the text its last word ends
-pub found-all : (bs : List ℕ) (ws vs : List (List ℕ)) (start i : ℕ) → length bs ≤ i → Found bs ws start i → vs ≡ ws ++ ended (take (i - start) (drop start bs)) [] → vs ≡ parted [] bs
-found-all bs ws vs start i l (s, b, h) v = v ∙ ap (λ (r : List (List ℕ)). ws ++ r) (sym (at-end bs start i l)) ∙ h
+  -- ws are the pieces of bs up to the place start, where the piece begins that has come up to i
+  abbrev pub Found : List (List ℕ) → ℕ → ℕ → Type 0
+  Found ws start i = (start ≤ i) × Boundary bs start × (ws ++ parted add test (take (i - start) (drop start bs)) (drop i bs) ≡ parted add test [] bs)
+
+  pub found-none : Utf8 bs → Found [] 0 0
+  found-none u = (omega arith, boundary-start bs u, refl)
+
+  -- a byte that fails the test goes on with the piece
+  pub found-more : (ws : List (List ℕ)) (start i : ℕ) → i < length bs → test (getD bs i 0) ≡ false → Found ws start i → Found ws start (i + 1)
+  found-more ws start i l e (s, b, h) = (omega arith, b, ap (λ (r : List (List ℕ)). ws ++ r) (sym (going-on start i s l e)) ∙ h)
+
+  -- a byte that passes it ends the piece, and another begins after it
+  pub found-cut : (ws vs : List (List ℕ)) (start i : ℕ) → Utf8 bs → i < length bs → test (getD bs i 0) ≡ true
+      → Found ws start i → vs ≡ ws ++ add (take (i - start) (drop start bs)) [] → Found vs (i + 1) (i + 1)
+  found-cut ws vs start i u l e (s, b, h) v =
+      let z : i + 1 - (i + 1) ≡ 0 = omega arith in
+      let low = p .ascii (getD bs i 0) e in
+      (omega arith, boundary-after-ascii bs i u l low, rw (z, v) (append-assoc ws (add (take (i - start) (drop start bs)) []) (parted add test [] (drop (i + 1) bs)) ∙ ap (λ (r : List (List ℕ)). ws ++ r) (sym (cutting start i l e)) ∙ h))
+
+  -- at the end of the text its last piece ends
+  pub found-all : (ws vs : List (List ℕ)) (start i : ℕ) → length bs ≤ i → Found ws start i → vs ≡ ws ++ add (take (i - start) (drop start bs)) [] → vs ≡ parted add test [] bs
+  found-all ws vs start i l (s, b, h) v = v ∙ ap (λ (r : List (List ℕ)). ws ++ r) (sym (at-end start i l)) ∙ h
 
 -- the lines before the one that is not UTF-8 are UTF-8
 pub front-utf8 : (bs : List ℕ) (stop start : ℕ) → ValidUpTo bs stop → LineStart bs stop start → Utf8 (take start bs)

@@ -19,14 +19,19 @@ abbrev pub ended : List ℕ → List (List ℕ) → List (List ℕ)
 ended [] ws = ws
 ended (c ∷ cs) ws = (c ∷ cs) ∷ ws
 
--- the words of w and then the text, where w holds no white space: white space ends a word
-abbrev pub parted : List ℕ → List ℕ → List (List ℕ)
-parted w [] = ended w []
-parted w (c ∷ cs) = cond (asciiWhite c) (ended w (parted [] cs)) (parted (w ++ (c ∷ [])) cs)
+-- the pieces of w and then the text, cut at each byte that passes the test, where none of w does;
+-- `add` puts a piece before the later ones
+abbrev pub parted : (List ℕ → List (List ℕ) → List (List ℕ)) → (ℕ → Bool) → List ℕ → List ℕ → List (List ℕ)
+parted add test w [] = add w []
+parted add test w (c ∷ cs) = cond (test c) (add w (parted add test [] cs)) (parted add test (w ++ (c ∷ [])) cs)
 
--- the words of a line: what stands before its comment, parted by white space
+-- the words of a line: what stands before its comment, cut at white space, without empty pieces
 unfoldable pub words-in : List ℕ → List (List ℕ)
-words-in line = parted [] (before-comment line)
+words-in line = parted ended asciiWhite [] (before-comment line)
+
+-- the lines of a text, cut at each line feed, which is byte 10; what follows the last is a line too
+unfoldable pub lines-in : List ℕ → List (List ℕ)
+lines-in text = parted (λ line later. line ∷ later) (λ c. eqb c 10) [] text
 
 -- the line in which the byte at stop stands begins at start: a line feed, byte 10, stands right
 -- before start, unless the text begins there, and none from there up to stop

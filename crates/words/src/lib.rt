@@ -5,6 +5,7 @@ mod numbers;
 
 pub use lines::count;
 pub use lines::has_count;
+pub use lines::lines_of;
 pub use lines::text_of;
 pub use lines::word_at;
 pub use lines::words_of;
@@ -86,6 +87,8 @@ mod tests {
         for (line, want) in LINES {
             check_eq(joined(rt.alloc(), line)?.as_str(), want)?;
         }
+        let lines = lines_of(rt.alloc(), "a\r\n\nb")?;
+        check_eq(lines.as_slice(), ["a\r", "", "b"].as_slice())?;
         check_eq(text_of(b""), ("", true))?;
         check_eq(text_of(b"a\r\n\xc3\xa9"), ("a\r\n\u{e9}", true))?;
         check_eq(text_of(b"a\nb\n# \xc3\nc"), ("a\nb\n", false))?;

@@ -9,7 +9,7 @@ ghost use Rattle.std.specs.Of.Vec.{vec-items};
 ghost use Rattle.std.specs.Vec.{made};
 ghost use Rattle.std.specs.Words.{Boundary};
 ghost use Rattle.words.specs.Words.{texts};
-ghost use Rattle.words.specs.Lines.{before-comment, ended, words-in, LineStart, TextOf};
+ghost use Rattle.words.specs.Lines.{before-comment, ended, words-in, lines-in, LineStart, TextOf};
 use std::alloc::AllocError;
 use std::alloc::Global;
 use std::str::from_utf8;
@@ -79,15 +79,33 @@ pub fn words_of<'a>(heap: Global, line: &'a str) -> Result<Vec<&'a str>, AllocEr
     Ok(words)
 }
 
+// The lines of a text, cut at each line feed; what follows the last one is a line too. A carriage
+// return before a line feed stays: it is white space. It refuses only for want of memory.
+pub fn lines_of<'a>(heap: Global, text: &'a str) -> Result<Vec<&'a str>, AllocError>
+    ensures { λ r. ⌜ made r (λ ls. texts (vec-items ls) ≡ lines-in (now (text .entry))) ⌝ }
+{
+    let bytes = text.as_bytes();
+    let mut lines = Vec::new(heap);
+    let mut start = 0;
+    for i in 0..bytes.len() {
+        if bytes[i] == b'\n' {
+            lines.push(&text[start..i])?;
+            start = i + 1;
+        }
+    }
+    lines.push(&text[start..bytes.len()])?;
+    Ok(lines)
+}
+
 // Where the line begins in which the byte at `stop` stands.
 fn line_start(bytes: &[u8], stop: usize) -> usize
     requires { ⌜ stop ≤ length (now bytes) ⌝ }
     ensures { λ r. ⌜ LineStart (now (bytes .entry)) stop r ⌝ }
 {
     let mut start = 0;
-    for i in 0..stop {
-        if bytes[i] == b'\n' {
-            start = i + 1;
+    for at in 0..stop {
+        if bytes[at] == b'\n' {
+            start = at + 1;
         }
     }
     start

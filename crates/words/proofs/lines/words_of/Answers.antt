@@ -7,29 +7,29 @@ use borrow.Author.Needs.{needs}
 use Rattle.std.specs.Of.Vec.{vec-items}
 use Rattle.std.specs.Text.{asciiWhite}
 use Rattle.words.specs.Words.{texts}
-use Rattle.words.specs.Lines.{words-in, parted}
-use Rattle.words.proofs.Parting.{Found, found-none, found-more, found-cut, found-all}
+use Rattle.words.specs.Lines.{words-in, parted, ended}
+use Rattle.words.proofs.Parting.{words-parts, found-none, found-more, found-cut, found-all}
 use Rattle.words.proofs.lines.words_of.Needs as need
 use Rattle.words.proofs.lines.words_of.Needs.{then-is-ascii-whitespace·in-Continue-add-word, else-is-ascii-whitespace}
 
 pub loop-i-holds : need.loop-i-holds
-loop-i-holds c = rw (c .new-words .ensures .items) (found-none (c .before-comment-text .result .now) (c .before-comment-text .utf8))
+loop-i-holds c = rw (c .new-words .ensures .items) (found-none words-parts (c .before-comment-text .result .now) (c .before-comment-text .utf8))
 
 pub loop-i-again : need.loop-i-again
 loop-i-again c =
     elim (c .if-is-ascii-whitespace .came) [
       | then-is-ascii-whitespace·in-Continue-add-word w ↦
           rw (w .words-is, w .start-is)
-          (found-cut (c .before-comment-text .result .now) (texts (vec-items (c .loop-i .words))) (texts (vec-items (w .add-word .last .words))) (c .loop-i .start) (c .loop-i .i)
+          (found-cut words-parts (c .before-comment-text .result .now) (texts (vec-items (c .loop-i .words))) (texts (vec-items (w .add-word .last .words))) (c .loop-i .start) (c .loop-i .i)
           (c .before-comment-text .utf8) (search needs) (search needs) (c .loop-i .inv) (w .in-Continue-add-word .ensures tt))
       | else-is-ascii-whitespace w ↦
           rw (w .words-is, w .start-is)
-          (found-more (c .before-comment-text .result .now) (texts (vec-items (c .loop-i .words))) (c .loop-i .start) (c .loop-i .i)
+          (found-more words-parts (c .before-comment-text .result .now) (texts (vec-items (c .loop-i .words))) (c .loop-i .start) (c .loop-i .i)
           (search needs) (search needs) (c .loop-i .inv))
     ]
 
 pub returns : need.returns
 unfolding words-in
 returns c =
-    found-all (c .before-comment-text .result .now) (texts (vec-items (c .loop-i .words))) (texts (vec-items (c .add-word-2 .last .words))) (c .loop-i .start) (c .loop-i .i)
-    (search needs) (c .loop-i .inv) (search needs) ∙ ap (parted []) (c .before-comment-text .ensures)
+    found-all words-parts (c .before-comment-text .result .now) (texts (vec-items (c .loop-i .words))) (texts (vec-items (c .add-word-2 .last .words))) (c .loop-i .start) (c .loop-i .i)
+    (search needs) (c .loop-i .inv) (search needs) ∙ ap (parted ended asciiWhite []) (c .before-comment-text .ensures)
