@@ -87,14 +87,9 @@ left-over (negsuc n) h = absurd (h .le)
 
 -- ---- what the calls answer, with their arguments as bits
 
-half-up : (v : ℤ) → SFits w64 v → pos 0 ≤ℤ v → (toZ w64 ((natAbs (toZ w64 (ofZ w64 v)) + 1) / 2) ≡ shr (v +ℤ pos 1) 1) × (natAbs (toZ w64 (ofZ w64 v)) ≤ 2 ^ 63)
-half-up (pos n) f h = (omega (arith, ints), omega (arith, ints))
-half-up (negsuc n) f h = absurd (h .le)
-
-pub rounded-by : (w a : ℤ) (i : ℕ) → SFits w64 w → SFits w64 a → pos 0 ≤ℤ w → a ≡ shr (toZ w64 (ofZ w64 w)) (61 - i) → toZ w64 ((natAbs (toZ w64 (ofZ w64 a)) + 1) / 2) ≡ shr (shr w (61 - i) +ℤ pos 1) 1
-rounded-by w a i fw fa h p =
-    let p′ : a ≡ shr w (61 - i) = p ∙ ap (λ v. shr v (61 - i)) (toZ-ofZ w64 w fw) in
-    half-up a fa (omega (arith, ints, shr-least w (61 - i) h)) .0 ∙ ap (λ v. shr (v +ℤ pos 1) 1) p′
+pub rounded-by : (w a r : ℤ) (i : ℕ) → SFits w64 w → SFits w64 a → a ≡ shr (toZ w64 (ofZ w64 w)) (61 - i) → r ≡ shr (toZ w64 (ofZ w64 a) +ℤ pos 1) 1 → r ≡ shr (shr w (61 - i) +ℤ pos 1) 1
+rounded-by w a r i fw fa p q =
+    q ∙ ap (λ v. shr (v +ℤ pos 1) 1) (toZ-ofZ w64 a fa ∙ p ∙ ap (λ v. shr v (61 - i)) (toZ-ofZ w64 w fw))
 
 pub scaled-by : (i : ℕ) (z : ℤ) (e : Exp) (lo m r : ℤ) → SFits w64 z → pos 0 ≤ℤ z → z <ℤ pos (2 ^ 57) → (ofZ w64 z ≡ 0 → ⊥) → e ≡ exp-turns (toZ w64 (ofZ w64 (toZ w64 (ofZ w64 z) *ℤ pos 32))) 34 → SFits w64 (e .w) → SFits w64 lo → SFits w64 m → lo ≡ tail i e → m ≡ saturated 63 (toZ w64 (ofZ w64 (e .w)) *ℤ pos 2) → r ≡ saturated 63 (toZ w64 (ofZ w64 m) +ℤ toZ w64 (ofZ w64 lo)) → (r ≡ scaled i z) × (r ≡ held (held (e .w *ℤ pos 2) +ℤ lo))
 scaled-by i z e lo m r fz h g n p fw fl fm q s t =

@@ -176,10 +176,10 @@ log-turns-more w k l r p q = rw add-one (q ∙ ap (log-turn (step k)) p)
 pub log-inv : (w k : ℕ) (l : Log) → 2 ^ 61 ≤ w → w < 2 ^ 62 → k ≤ 65 → l ≡ log-turns w k → Log-in k l
 log-inv w k l h g b p = rw p (log-turns-in w k h g b)
 
-pub frac-by : (w : ℕ) (z s : ℤ) → 2 ^ 61 ≤ w → w < 2 ^ 62 → z ≡ log-turns w 65 .z → s ≡ shr (toZ w64 (ofZ w64 (toZ w64 (ofZ w64 z) +ℤ pos 8))) 4 → s ≡ shr (log-turns w 65 .z +ℤ pos 8) 4
+pub frac-by : (w : ℕ) (z s : ℤ) → 2 ^ 61 ≤ w → w < 2 ^ 62 → z ≡ log-turns w 65 .z → s ≡ shr (toZ w64 (ofZ w64 z) +ℤ pos 8) 4 → s ≡ shr (log-turns w 65 .z +ℤ pos 8) 4
 frac-by w z s h g p q =
-    let e : toZ w64 (ofZ w64 (toZ w64 (ofZ w64 z) +ℤ pos 8)) ≡ z +ℤ pos 8 = omega (arith, ints, z-near w h g) in
-    q ∙ ap (λ v. shr v 4) e ∙ ap (λ v. shr (v +ℤ pos 8) 4) p
+    let e : toZ w64 (ofZ w64 z) ≡ z = omega (arith, ints, z-near w h g) in
+    q ∙ ap (λ v. shr (v +ℤ pos 8) 4) e ∙ ap (λ v. shr (v +ℤ pos 8) 4) p
 
 pub below-pow : (j m : ℕ) → 2 ^ j < 2 ^ m → j < m
 below-pow j m h =

@@ -1,9 +1,10 @@
 // The binary exponential of a logarithm in Q57, by 34 turns on the high digits and 30 more for the
 // low ones. It rests on the tables and the parts of a turn.
 ghost use Prim.Native.Nat.{ℕ, _+_, _-_, _*_, _^_, _<_, _≤_};
-ghost use lib.IntN.{ℤ, pos, negℤ, natAbs};
+ghost use lib.IntN.{ℤ, pos, negℤ, natAbs, _+ℤ_};
 ghost use lib.Signed.{_<ℤ_, _≤ℤ_};
 ghost use mathlib.Core.Path.{_≡_};
+ghost use Rattle.logexp.specs.Cordic.{shr};
 ghost use Rattle.logexp.specs.LogExp.{exp-turn, exp-turns, tail-turn, tail, scaled, rounded, bexp64};
 ghost use Rattle.logexp.specs.Laws.{Exact-power, Power-band};
 ghost use Rattle.logexp.specs.Bounds.{Exp-in, Tail-in};
@@ -95,6 +96,14 @@ fn scaled(ipart: u32, z: i64) -> i64
     e.w.saturating_mul(2).saturating_add(lo)
 }
 
+// Half of a, to the nearest whole number, halves up.
+fn half_up(a: i64) -> i64
+    requires { ⌜ pos 0 ≤ℤ a ⌝ }
+    ensures { λ r. ⌜ r ≡ shr (a +ℤ pos 1) 1 ⌝ }
+{
+    ((a as u64 + 1) >> 1) as i64
+}
+
 // w / 2^(62 - ipart) to the nearest whole number.
 fn rounded(w: i64, ipart: u32) -> i64
     requires { ⌜ pos 0 ≤ℤ w ⌝ }
@@ -102,7 +111,7 @@ fn rounded(w: i64, ipart: u32) -> i64
     ensures near { λ r. ⌜ pos 0 ≤ℤ r ⌝ }
 {
     if ipart < 62 {
-        ((shr(w, 61 - ipart) as u64 + 1) >> 1) as i64
+        half_up(shr(w, 61 - ipart))
     } else {
         w
     }

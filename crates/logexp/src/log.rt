@@ -4,7 +4,7 @@ ghost use Prim.Native.Nat.{ℕ, _+_, _-_, _*_, _^_, _<_, _≤_};
 ghost use lib.IntN.{ℤ, pos, negsuc, _+ℤ_};
 ghost use lib.Signed.{_<ℤ_, _≤ℤ_};
 ghost use mathlib.Core.Path.{_≡_};
-ghost use Rattle.logexp.specs.Cordic.{step};
+ghost use Rattle.logexp.specs.Cordic.{step, shr};
 ghost use Rattle.logexp.specs.LogExp.{log-turn, log-turns, moved, blog-parts, blog64};
 ghost use Rattle.logexp.specs.Laws.{Exact-log, Log-band};
 ghost use Rattle.logexp.specs.Bounds.{Log-in};
@@ -63,6 +63,14 @@ fn moved(ipart: u32, n: u64) -> u64
     }
 }
 
+// z from Q61 to Q57, to the nearest, halves up.
+fn to_q57(z: i64) -> i64
+    requires { ⌜ z <ℤ pos (2 ^ 62) ⌝ }
+    ensures { λ r. ⌜ r ≡ shr (z +ℤ pos 8) 4 ⌝ }
+{
+    shr(z + 8, 4)
+}
+
 // The logarithm of w * 2^(ipart - 61): exact at a power of two, which shares no digit with the number
 // before it, else rounded from Q61 to Q57.
 fn blog_parts(ipart: u32, w: u64) -> i64
@@ -73,7 +81,7 @@ fn blog_parts(ipart: u32, w: u64) -> i64
     if w & (w - 1) == 0 {
         whole
     } else {
-        whole + shr(log_turns(w) + 8, 4)
+        whole + to_q57(log_turns(w))
     }
 }
 

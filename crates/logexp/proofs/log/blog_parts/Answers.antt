@@ -4,12 +4,12 @@ use Rattle.logexp.proofs.LogTurns.{z-near, frac-by, fraction-in, parts-whole, 
 use Rattle.logexp.proofs.PowerTest.{power-test}
 use Rattle.logexp.proofs.log.blog_parts.Needs as need
 
-pub add-log-turns : need.add-log-turns
-add-log-turns c = omega (arith, ints, z-near (c .args .w) (c .pre .1 .0) (c .pre .1 .1))
+pub to-q57-requires : need.to-q57-requires
+to-q57-requires c κs = omega (arith, ints, z-near (c .args .w) (c .pre .1 .0) (c .pre .1 .1), c .log-turns .ensures)
 
 pub add-result : need.add-result
 add-result c =
-    let e = frac-by (c .args .w) (c .log-turns .result) (c .shr .result) (c .pre .1 .0) (c .pre .1 .1) (c .log-turns .ensures) (c .shr .ensures) in
+    let e = frac-by (c .args .w) (c .log-turns .result) (c .to-q57 .result) (c .pre .1 .0) (c .pre .1 .1) (c .log-turns .ensures) (c .to-q57 .ensures) in
     omega (arith, ints, fraction-in (c .args .w) (c .pre .1 .0) (c .pre .1 .1))
 
 pub returns-then-w-eq0 : need.returns-then-w-eq0
@@ -17,5 +17,5 @@ returns-then-w-eq0 c = omega (arith, ints, parts-whole (c .args .ipart) (c .args
 
 pub returns-else-w-eq0 : need.returns-else-w-eq0
 returns-else-w-eq0 c =
-    let e = frac-by (c .args .w) (c .log-turns .result) (c .shr .result) (c .pre .1 .0) (c .pre .1 .1) (c .log-turns .ensures) (c .shr .ensures) in
+    let e = frac-by (c .args .w) (c .log-turns .result) (c .to-q57 .result) (c .pre .1 .0) (c .pre .1 .1) (c .log-turns .ensures) (c .to-q57 .ensures) in
     omega (arith, ints, fraction-in (c .args .w) (c .pre .1 .0) (c .pre .1 .1), parts-other (c .args .ipart) (c .args .w) (λ e. c .if-w-eq0 .left (power-test 61 (c .args .w) (c .pre .1 .0) (c .pre .1 .1) .1 e)))
