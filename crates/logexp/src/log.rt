@@ -3,7 +3,9 @@
 ghost use Prim.Native.Nat.{ℕ, _+_, _-_, _*_, _^_, _<_, _≤_};
 ghost use lib.IntN.{ℤ, pos, negsuc, _+ℤ_};
 ghost use lib.Signed.{_<ℤ_, _≤ℤ_};
+ghost use lib.Bits.{bitAnd};
 ghost use mathlib.Core.Path.{_≡_};
+ghost use Rattle.std.specs.Orderings.{Decides};
 ghost use Rattle.logexp.specs.Cordic.{step, shr};
 ghost use Rattle.logexp.specs.LogExp.{log-turn, log-turns, moved, blog-parts, blog64};
 ghost use Rattle.logexp.specs.Laws.{Exact-log, Log-band};
@@ -63,6 +65,14 @@ fn moved(ipart: u32, n: u64) -> u64
     }
 }
 
+// Whether w shares no digit with the number before it, as only the powers of two do.
+fn is_power(w: u64) -> bool
+    requires { ⌜ 0 < w ⌝ }
+    ensures { λ r. ⌜ Decides r (bitAnd w (w - 1) ≡ 0) ⌝ }
+{
+    w & (w - 1) == 0
+}
+
 // z from Q61 to Q57, to the nearest, halves up.
 fn to_q57(z: i64) -> i64
     requires { ⌜ z <ℤ pos (2 ^ 62) ⌝ }
@@ -71,14 +81,14 @@ fn to_q57(z: i64) -> i64
     shr(z + 8, 4)
 }
 
-// The logarithm of w * 2^(ipart - 61): exact at a power of two, which shares no digit with the number
-// before it, else rounded from Q61 to Q57.
+// The logarithm of w * 2^(ipart - 61): exact at a power of two, else rounded from Q61 to
+// Q57.
 fn blog_parts(ipart: u32, w: u64) -> i64
     requires { ⌜ ipart ≤ 62 ⌝ ∗ ⌜ 2 ^ 61 ≤ w ⌝ ∗ ⌜ w < 2 ^ 62 ⌝ }
     ensures { λ r. ⌜ r ≡ blog-parts ipart w ⌝ }
 {
     let whole = ipart as i64 * (1 << 57);
-    if w & (w - 1) == 0 {
+    if is_power(w) {
         whole
     } else {
         whole + to_q57(log_turns(w))
