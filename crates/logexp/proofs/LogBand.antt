@@ -1,7 +1,8 @@
 -- The logarithm's z stays between 0 and 1, up to the rounding, by a test that computes. The test `covers`
 -- takes a bound a of u / v and a bound b of v / u, is content where z stays between the ends whatever the
--- turns that are left do, and else asks for either sign of y that the bounds allow. The 1023 numbers next
--- to either end, where the turns' roundings count, are computed one by one.
+-- turns that are left do, and else asks for either sign of y that the bounds allow; c and d are at most u
+-- and v, and say how much the turns' roundings count. The numbers next to either end, where they decide, are
+-- computed one by one.
 use Prim.Native.Nat.{ℕ, zero, suc, _+_, _-_, _*_, _/_, _^_, _≤_, _<_, max}
 use native.Mathlib.Omega.{arith}
 use native.Mathlib.Nat.{mul-le-mul-right}
@@ -20,7 +21,7 @@ use Rattle.logexp.proofs.TableRules.{all, all-at}
 use Rattle.logexp.proofs.ExpTurns.{along-neg, along-pos}
 use Rattle.logexp.proofs.Walks.{or-else, or-else-cases, sign-of, le-of}
 use Rattle.logexp.proofs.Ratios.{unit, next}
-use Rattle.logexp.proofs.LogRatios.{low, low-least, Ratio, step-above, step-below}
+use Rattle.logexp.proofs.LogRatios.{low, low-least, left-of, grown-to, more, less, Ratio, step-above, step-below}
 
 -- what turn k adds to z or takes from it, and n turns from turn k on together
 abbrev angle : ℕ → ℕ
@@ -48,20 +49,12 @@ pub record Fine (z : ℤ) : Type 0 where
 abbrev fine : ℤ → ℕ → Bool
 fine z r = leZ (negsuc 7) (z -ℤ pos r) && leZ (z +ℤ pos r) (pos (2 ^ 61 + 7))
 
-unfoldable covers : ℕ → ℕ → ℕ → ℕ → ℤ → Bool
-covers zero k a b z = fine z 0
-covers (suc n) k a b z =
+unfoldable covers : ℕ → ℕ → ℕ → ℕ → ℕ → ℕ → ℤ → Bool
+covers zero k a b c d z = fine z 0
+covers (suc n) k a b c d z =
     or-else (fine z (rest (suc n) k)) (λ _.
-    or-else (leb unit a) (λ _.
-    covers n (suc k)
-    (next (2 ^ (step k + 1)) (2 ^ (step k + 1) - 1) (2 ^ (step k + 1) + 1) a)
-    (next (2 ^ (step k + 1)) (2 ^ (step k + 1) + 1) (2 ^ (step k + 1) - 1) (max b unit))
-    (z +ℤ negℤ (pos (angle k))))
-    && or-else (ltb unit b) (λ _.
-    covers n (suc k)
-    (next (2 ^ (step k + 1)) (2 ^ (step k + 1) + 1) (2 ^ (step k + 1) - 1) (max a unit))
-    (next (2 ^ (step k + 1)) (2 ^ (step k + 1) - 1) (2 ^ (step k + 1) + 1) b)
-    (z +ℤ pos (angle k))))
+    or-else (leb unit a) (λ _. covers n (suc k) (more k d a) (less k c (max b unit)) (grown-to k c) (left-of k d) (z +ℤ negℤ (pos (angle k))))
+    && or-else (ltb unit b) (λ _. covers n (suc k) (less k d (max a unit)) (more k c b) (left-of k c) (grown-to k d) (z +ℤ pos (angle k))))
 
 -- z goes no further than the turns' constants together
 within : (n k : ℕ) (l : Log) → (l .z ≤ℤ (walk n k l .z +ℤ pos (rest n k))) × (walk n k l .z ≤ℤ (l .z +ℤ pos (rest n k)))
@@ -84,22 +77,22 @@ fine-now : (z : ℤ) → fine z 0 ≡ true → Fine z
 fine-now z t = fine-holds z z 0 (omega (arith, ints)) (omega (arith, ints)) t
 
 -- the bounds exclude a sign of y
-not-below : (k a b : ℕ) (l : Log) → unit ≤ a → l .y <ℤ pos 0 → Ratio k a b l → ⊥
-not-below k a b l h s q = omega (arith, ints, q .sum, q .dif, q .above, mul-le-mul-right (q .v) h)
+not-below : (k a b c d : ℕ) (l : Log) → unit ≤ a → l .y <ℤ pos 0 → Ratio k a b c d l → ⊥
+not-below k a b c d l h s q = omega (arith, ints, q .sum, q .dif, q .above, mul-le-mul-right (q .v) h)
 
-not-above : (k a b : ℕ) (l : Log) → k < 66 → unit < b → pos 0 ≤ℤ l .y → Ratio k a b l → ⊥
-not-above k a b l g h s q =
+not-above : (k a b c d : ℕ) (l : Log) → k < 66 → unit < b → pos 0 ≤ℤ l .y → Ratio k a b c d l → ⊥
+not-above k a b c d l g h s q =
     let m : suc unit * q .u ≤ b * q .u = mul-le-mul-right (q .u) h in
     omega (arith, ints, q .sum, q .dif, q .below, q .low-u, low-least k g)
 
-covered : (n k a b : ℕ) (l : Log) → k + n ≤ 65 → Ratio k a b l → covers n k a b (l .z) ≡ true → Fine (walk n k l .z)
+covered : (n k a b c d : ℕ) (l : Log) → k + n ≤ 65 → Ratio k a b c d l → covers n k a b c d (l .z) ≡ true → Fine (walk n k l .z)
 unfolding covers walk log-turn
-covered zero k a b l h q t = fine-now (l .z) t
-covered (suc n) k a b l h q t =
+covered zero k a b c d l h q t = fine-now (l .z) t
+covered (suc n) k a b c d l h q t =
     let i : ℕ = step k in
     let z : ℤ = l .z in
-    let down : Unit {0} → Bool = λ _. covers n (suc k) (next (2 ^ (i + 1)) (2 ^ (i + 1) - 1) (2 ^ (i + 1) + 1) a) (next (2 ^ (i + 1)) (2 ^ (i + 1) + 1) (2 ^ (i + 1) - 1) (max b unit)) (z +ℤ negℤ (pos (angle k))) in
-    let up : Unit {0} → Bool = λ _. covers n (suc k) (next (2 ^ (i + 1)) (2 ^ (i + 1) + 1) (2 ^ (i + 1) - 1) (max a unit)) (next (2 ^ (i + 1)) (2 ^ (i + 1) - 1) (2 ^ (i + 1) + 1) b) (z +ℤ pos (angle k)) in
+    let down : Unit {0} → Bool = λ _. covers n (suc k) (more k d a) (less k c (max b unit)) (grown-to k c) (left-of k d) (z +ℤ negℤ (pos (angle k))) in
+    let up : Unit {0} → Bool = λ _. covers n (suc k) (less k d (max a unit)) (more k c b) (left-of k c) (grown-to k d) (z +ℤ pos (angle k)) in
     elim (or-else-cases (fine z (rest (suc n) k)) (λ _. or-else (leb unit a) down && or-else (ltb unit b) up) t) [
       | inl f ↦ fine-holds z _ (rest (suc n) k) (within (suc n) k l .0) (within (suc n) k l .1) f
       | inr f ↦
@@ -107,13 +100,13 @@ covered (suc n) k a b l h q t =
           elim (sign-of (l .y)) [
             | inl s ↦
                 elim (or-else-cases (leb unit a) down (both .0)) [
-                  | inl e ↦ absurd (not-below k a b l (leb-true unit a e) s q)
-                  | inr e ↦ covered n (suc k) _ _ (log-turn i l) (omega arith) (step-below k a b l (omega arith) s q) (rw (along-neg (l .y) (pos (angle k)) s) e)
+                  | inl e ↦ absurd (not-below k a b c d l (leb-true unit a e) s q)
+                  | inr e ↦ covered n (suc k) _ _ _ _ (log-turn i l) (omega arith) (step-below k a b c d l (omega arith) s q) (rw (along-neg (l .y) (pos (angle k)) s) e)
                 ]
             | inr s ↦
                 elim (or-else-cases (ltb unit b) up (both .1)) [
-                  | inl e ↦ absurd (not-above k a b l (omega arith) (ltb-true unit b e) s q)
-                  | inr e ↦ covered n (suc k) _ _ (log-turn i l) (omega arith) (step-above k a b l (omega arith) s q) (rw (along-pos (l .y) (pos (angle k)) s) e)
+                  | inl e ↦ absurd (not-above k a b c d l (omega arith) (ltb-true unit b e) s q)
+                  | inr e ↦ covered n (suc k) _ _ _ _ (log-turn i l) (omega arith) (step-above k a b c d l (omega arith) s q) (rw (along-pos (l .y) (pos (angle k)) s) e)
                 ]
           ]
     ]
@@ -121,26 +114,26 @@ covered (suc n) k a b l h q t =
 -- ---- the tests
 
 abbrev first : ℕ
-first = unit + 2 ^ 17
+first = unit + 2 ^ 15
 
 abbrev last : ℕ
-last = 2 ^ 129 / (2 ^ 62 - 1024)
+last = 2 ^ 129 / (2 ^ 62 - 512)
 
-middle-computed : covers 65 0 first last (pos 0) ≡ true
+middle-computed : covers 65 0 first last (2 ^ 62) (2 ^ 62) (pos 0) ≡ true
 unfolding covers rest next computing
 middle-computed = refl
 
-low-end-computed : all (λ d. fine (log-turns (2 ^ 61 + d) 65 .z) 0) 1024 ≡ true
+low-end-computed : all (λ d. fine (log-turns (2 ^ 61 + d) 65 .z) 0) 256 ≡ true
 unfolding computing
 low-end-computed = refl
 
-high-end-computed : all (λ d. fine (log-turns (2 ^ 62 - 1 - d) 65 .z) 0) 1024 ≡ true
+high-end-computed : all (λ d. fine (log-turns (2 ^ 62 - 1 - d) 65 .z) 0) 512 ≡ true
 unfolding computing
 high-end-computed = refl
 
 -- ---- what they give
 
-starts : (w : ℕ) → 2 ^ 61 + 1024 ≤ w → w + 1024 ≤ 2 ^ 62 → Ratio 0 first last (log-turns w 0)
+starts : (w : ℕ) → 2 ^ 61 + 256 ≤ w → w + 512 ≤ 2 ^ 62 → Ratio 0 first last (2 ^ 62) (2 ^ 62) (log-turns w 0)
 unfolding log-turns low
 starts w h g = record {
   u = 2 * w;
@@ -151,31 +144,33 @@ starts w h g = record {
   low-v = omega arith;
   above = omega arith;
   below = omega arith;
+  at-u = omega arith;
+  at-v = omega arith;
 }
 
-middle : (w : ℕ) → 2 ^ 61 + 1024 ≤ w → w + 1024 ≤ 2 ^ 62 → Fine (log-turns w 65 .z)
+middle : (w : ℕ) → 2 ^ 61 + 256 ≤ w → w + 512 ≤ 2 ^ 62 → Fine (log-turns w 65 .z)
 unfolding log-turns
 middle w h g =
-    subst (λ (l : Log). Fine (l .z)) (turns-walk w 65 0) (covered 65 0 first last (log-turns w 0) (omega arith) (starts w h g) middle-computed)
+    subst (λ (l : Log). Fine (l .z)) (turns-walk w 65 0) (covered 65 0 first last (2 ^ 62) (2 ^ 62) (log-turns w 0) (omega arith) (starts w h g) middle-computed)
 
-low-end : (w : ℕ) → 2 ^ 61 ≤ w → w < 2 ^ 61 + 1024 → Fine (log-turns w 65 .z)
+low-end : (w : ℕ) → 2 ^ 61 ≤ w → w < 2 ^ 61 + 256 → Fine (log-turns w 65 .z)
 low-end w h g =
     let e : 2 ^ 61 + (w - 2 ^ 61) ≡ w = omega arith in
-    let t = all-at (λ d. fine (log-turns (2 ^ 61 + d) 65 .z) 0) 1024 low-end-computed (w - 2 ^ 61) (omega arith) in
+    let t = all-at (λ d. fine (log-turns (2 ^ 61 + d) 65 .z) 0) 256 low-end-computed (w - 2 ^ 61) (omega arith) in
     subst (λ (n : ℕ). Fine (log-turns n 65 .z)) e (fine-now _ t)
 
-high-end : (w : ℕ) → 2 ^ 62 < w + 1024 → w < 2 ^ 62 → Fine (log-turns w 65 .z)
+high-end : (w : ℕ) → 2 ^ 62 < w + 512 → w < 2 ^ 62 → Fine (log-turns w 65 .z)
 high-end w h g =
     let e : 2 ^ 62 - 1 - (2 ^ 62 - 1 - w) ≡ w = omega arith in
-    let t = all-at (λ d. fine (log-turns (2 ^ 62 - 1 - d) 65 .z) 0) 1024 high-end-computed (2 ^ 62 - 1 - w) (omega arith) in
+    let t = all-at (λ d. fine (log-turns (2 ^ 62 - 1 - d) 65 .z) 0) 512 high-end-computed (2 ^ 62 - 1 - w) (omega arith) in
     subst (λ (n : ℕ). Fine (log-turns n 65 .z)) e (fine-now _ t)
 
 pub z-fine : (w : ℕ) → 2 ^ 61 ≤ w → w < 2 ^ 62 → Fine (log-turns w 65 .z)
 z-fine w h g =
-    elim (cases-lt w (2 ^ 61 + 1024)) [
+    elim (cases-lt w (2 ^ 61 + 256)) [
       | inl a ↦ low-end w h a
       | inr a ↦
-          elim (cases-lt (2 ^ 62) (w + 1024)) [
+          elim (cases-lt (2 ^ 62) (w + 512)) [
             | inl b ↦ high-end w b g
             | inr b ↦ middle w a b
           ]

@@ -80,14 +80,14 @@ dif-part (negsuc m) (negsuc q) u v s e d = absurd (omega (arith, ints))
 
 -- ---- one turn
 
--- t goes to f / s of it, where r is what it goes to
-record Step (f s t : ℕ) (r : ℤ) : Type 0 where
+-- t goes to f / s of it, which is m up to one; r is what it goes to
+record Step (f s t m : ℕ) (r : ℤ) : Type 0 where
   pub to : ℕ
   pub is : r ≡ pos to
   pub near : Near f s t to
-  pub low : t ≤ to + t / s + 1
+  pub low : m ≤ to + 1
 
-lessened : (t i : ℕ) (j r : ℤ) → r ≡ pos t -ℤ j → Part j t (i + 1) → 2 ^ 60 ≤ t → Step (2 ^ (i + 1) - 1) (2 ^ (i + 1)) t r
+lessened : (t i : ℕ) (j r : ℤ) → r ≡ pos t -ℤ j → Part j t (i + 1) → 2 ^ 60 ≤ t → Step (2 ^ (i + 1) - 1) (2 ^ (i + 1)) t (t - t / 2 ^ (i + 1)) r
 lessened t i j r e q h =
     let f : (2 ^ (i + 1) - 1) + 1 ≡ 2 ^ (i + 1) = omega (arith, pow-pos (i + 1)) in
     let a : r ≡ pos (natAbs r) = omega (arith, ints, half t i, q .most) in
@@ -99,7 +99,7 @@ lessened t i j r e q h =
       low = omega (arith, ints, q .most);
     }
 
-raised : (t i : ℕ) (j r : ℤ) → r ≡ pos t +ℤ j → Part j t (i + 1) → 2 ^ 60 ≤ t → Step (2 ^ (i + 1) + 1) (2 ^ (i + 1)) t r
+raised : (t i : ℕ) (j r : ℤ) → r ≡ pos t +ℤ j → Part j t (i + 1) → 2 ^ 60 ≤ t → Step (2 ^ (i + 1) + 1) (2 ^ (i + 1)) t (t + t / 2 ^ (i + 1)) r
 raised t i j r e q h =
     let a : r ≡ pos (natAbs r) = omega (arith, ints, q .least) in
     let b : natAbs r + 1 ≡ t + natAbs (j +ℤ pos 1) = omega (arith, ints, q .least) in
@@ -110,10 +110,23 @@ raised t i j r e q h =
       low = omega (arith, ints, q .least);
     }
 
--- what u and v are at least before turn k
+-- what is at least left of a number that is at least c, and what it at least comes to
+abbrev pub left-of : ℕ → ℕ → ℕ
+left-of k c = c - c / 2 ^ (step k + 1) - 1
+
+abbrev pub grown-to : ℕ → ℕ → ℕ
+grown-to k c = c + c / 2 ^ (step k + 1) - 1
+
+left-holds : (k c t to : ℕ) → c ≤ t → t - t / 2 ^ (step k + 1) ≤ to + 1 → left-of k c ≤ to
+left-holds k c t to h g = omega (arith, shrink c t (step k + 1) h)
+
+grown-holds : (k c t to : ℕ) → c ≤ t → t + t / 2 ^ (step k + 1) ≤ to + 1 → grown-to k c ≤ to
+grown-holds k c t to h g = omega (arith, shr-mono (step k + 1) h)
+
+-- what u and v are at least before turn k, whatever the turns before it
 unfoldable pub low : ℕ → ℕ
 low zero = 2 ^ 62
-low (suc k) = low k - low k / 2 ^ (step k + 1) - 1
+low (suc k) = left-of k (low k)
 
 low-computed : all (λ k. leb (2 ^ 60) (low k)) 66 ≡ true
 unfolding low computing
@@ -122,12 +135,12 @@ low-computed = refl
 pub low-least : (k : ℕ) → k < 66 → 2 ^ 60 ≤ low k
 low-least k h = leb-true (2 ^ 60) (low k) (all-at (λ k. leb (2 ^ 60) (low k)) 66 low-computed k h)
 
-low-next : (k f t : ℕ) (r : ℤ) → low k ≤ t → (q : Step f (2 ^ (step k + 1)) t r) → low (suc k) ≤ q .to
+low-next : (k t to : ℕ) → low k ≤ t → t - t / 2 ^ (step k + 1) ≤ to + 1 → low (suc k) ≤ to
 unfolding low
-low-next k f t r h q = omega (arith, shrink (low k) t (step k + 1) h, q .low)
+low-next k t to h g = left-holds k (low k) t to h g
 
--- the bounds before turn k
-pub record Ratio (k a b : ℕ) (l : Log) : Type 0 where
+-- the bounds a and b of the ratios before turn k, and c and d of u and v
+pub record Ratio (k a b c d : ℕ) (l : Log) : Type 0 where
   pub u : ℕ
   pub v : ℕ
   pub sum : l .x +ℤ l .y ≡ pos u
@@ -136,6 +149,8 @@ pub record Ratio (k a b : ℕ) (l : Log) : Type 0 where
   pub low-v : low k ≤ v
   pub above : a * v ≤ unit * u
   pub below : b * u ≤ unit * v
+  pub at-u : c ≤ u
+  pub at-v : d ≤ v
 
 max-holds : (a v c : ℕ) → a * v ≤ c → unit * v ≤ c → max a unit * v ≤ c
 max-holds a v c h g =
@@ -168,43 +183,54 @@ unfolding log-turn
 below-dif l i v s e =
     omega (arith, ints, along-neg (l .y) (shr (l .y) (i + 1)) s, along-neg (l .y) (shr (l .x) (i + 1)) s)
 
+-- the bound p of y / x after turn k, where x is at least c: x shrinks and y grows, or the other way round
+abbrev pub more : ℕ → ℕ → ℕ → ℕ
+more k c p = next (max c (2 ^ 60)) (2 ^ (step k + 1)) (2 ^ (step k + 1) - 1) (2 ^ (step k + 1) + 1) p
+
+abbrev pub less : ℕ → ℕ → ℕ → ℕ
+less k c p = next (max c (2 ^ 60)) (2 ^ (step k + 1)) (2 ^ (step k + 1) + 1) (2 ^ (step k + 1) - 1) p
+
 -- the bounds after a turn with y not negative, and after one with y negative
-pub step-above : (k a b : ℕ) (l : Log) → k < 65 → pos 0 ≤ℤ l .y → Ratio k a b l → Ratio (suc k) (next (2 ^ (step k + 1)) (2 ^ (step k + 1) + 1) (2 ^ (step k + 1) - 1) (max a unit)) (next (2 ^ (step k + 1)) (2 ^ (step k + 1) - 1) (2 ^ (step k + 1) + 1) b) (log-turn (step k) l)
-step-above k a b l h s q =
+pub step-above : (k a b c d : ℕ) (l : Log) → k < 65 → pos 0 ≤ℤ l .y → Ratio k a b c d l → Ratio (suc k) (less k d (max a unit)) (more k c b) (left-of k c) (grown-to k d) (log-turn (step k) l)
+step-above k a b c d l h s q =
     let i : ℕ = step k in
     let n = low-least k (omega arith) in
     let tw = two-at-least (step k) in
     let pu = sum-part (l .x) (l .y) (q .u) (q .v) (i + 1) (q .sum) (q .dif) in
     let pv = dif-part (l .x) (l .y) (q .u) (q .v) (i + 1) (q .sum) (q .dif) in
-    let su : Step (2 ^ (i + 1) - 1) (2 ^ (i + 1)) (q .u) (log-turn i l .x +ℤ log-turn i l .y) = lessened (q .u) i _ _ (above-sum l i (q .u) s (q .sum)) pu (omega (arith, q .low-u)) in
-    let sv : Step (2 ^ (i + 1) + 1) (2 ^ (i + 1)) (q .v) (log-turn i l .x -ℤ log-turn i l .y) = raised (q .v) i _ _ (above-dif l i (q .v) s (q .dif)) pv (omega (arith, q .low-v)) in
+    let su : Step (2 ^ (i + 1) - 1) (2 ^ (i + 1)) (q .u) (q .u - q .u / 2 ^ (i + 1)) (log-turn i l .x +ℤ log-turn i l .y) = lessened (q .u) i _ _ (above-sum l i (q .u) s (q .sum)) pu (omega (arith, q .low-u)) in
+    let sv : Step (2 ^ (i + 1) + 1) (2 ^ (i + 1)) (q .v) (q .v + q .v / 2 ^ (i + 1)) (log-turn i l .x -ℤ log-turn i l .y) = raised (q .v) i _ _ (above-dif l i (q .v) s (q .dif)) pv (omega (arith, q .low-v)) in
     record {
       u = su .to;
       v = sv .to;
       sum = su .is;
       dif = sv .is;
-      low-u = low-next k _ _ _ (q .low-u) su;
-      low-v = low-next k _ _ _ (q .low-v) sv;
-      above = next-holds (2 ^ (i + 1)) (2 ^ (i + 1) + 1) (2 ^ (i + 1) - 1) (max a unit) (q .v) (q .u) (sv .to) (su .to) (omega arith) (omega arith) (omega (arith, q .low-v)) (max-holds a (q .v) (unit * q .u) (q .above) (omega (arith, ints, q .sum, q .dif))) (sv .near .most) (su .near .least);
-      below = next-holds (2 ^ (i + 1)) (2 ^ (i + 1) - 1) (2 ^ (i + 1) + 1) b (q .u) (q .v) (su .to) (sv .to) (omega arith) (omega arith) (omega (arith, q .low-u)) (q .below) (su .near .most) (sv .near .least);
+      low-u = low-next k (q .u) (su .to) (q .low-u) (omega (arith, su .low));
+      low-v = low-next k (q .v) (sv .to) (q .low-v) (omega (arith, sv .low));
+      above = next-holds (max d (2 ^ 60)) (2 ^ (i + 1)) (2 ^ (i + 1) + 1) (2 ^ (i + 1) - 1) (max a unit) (q .v) (q .u) (sv .to) (su .to) (omega arith) (omega arith) (omega arith) (omega (arith, q .low-v, q .at-v)) (max-holds a (q .v) (unit * q .u) (q .above) (omega (arith, ints, q .sum, q .dif))) (sv .near .most) (su .near .least);
+      below = next-holds (max c (2 ^ 60)) (2 ^ (i + 1)) (2 ^ (i + 1) - 1) (2 ^ (i + 1) + 1) b (q .u) (q .v) (su .to) (sv .to) (omega arith) (omega arith) (omega arith) (omega (arith, q .low-u, q .at-u)) (q .below) (su .near .most) (sv .near .least);
+      at-u = left-holds k c (q .u) (su .to) (q .at-u) (su .low);
+      at-v = grown-holds k d (q .v) (sv .to) (q .at-v) (sv .low);
     }
 
-pub step-below : (k a b : ℕ) (l : Log) → k < 65 → l .y <ℤ pos 0 → Ratio k a b l → Ratio (suc k) (next (2 ^ (step k + 1)) (2 ^ (step k + 1) - 1) (2 ^ (step k + 1) + 1) a) (next (2 ^ (step k + 1)) (2 ^ (step k + 1) + 1) (2 ^ (step k + 1) - 1) (max b unit)) (log-turn (step k) l)
-step-below k a b l h s q =
+pub step-below : (k a b c d : ℕ) (l : Log) → k < 65 → l .y <ℤ pos 0 → Ratio k a b c d l → Ratio (suc k) (more k d a) (less k c (max b unit)) (grown-to k c) (left-of k d) (log-turn (step k) l)
+step-below k a b c d l h s q =
     let i : ℕ = step k in
     let n = low-least k (omega arith) in
     let tw = two-at-least (step k) in
     let pu = sum-part (l .x) (l .y) (q .u) (q .v) (i + 1) (q .sum) (q .dif) in
     let pv = dif-part (l .x) (l .y) (q .u) (q .v) (i + 1) (q .sum) (q .dif) in
-    let su : Step (2 ^ (i + 1) + 1) (2 ^ (i + 1)) (q .u) (log-turn i l .x +ℤ log-turn i l .y) = raised (q .u) i _ _ (below-sum l i (q .u) s (q .sum)) pu (omega (arith, q .low-u)) in
-    let sv : Step (2 ^ (i + 1) - 1) (2 ^ (i + 1)) (q .v) (log-turn i l .x -ℤ log-turn i l .y) = lessened (q .v) i _ _ (below-dif l i (q .v) s (q .dif)) pv (omega (arith, q .low-v)) in
+    let su : Step (2 ^ (i + 1) + 1) (2 ^ (i + 1)) (q .u) (q .u + q .u / 2 ^ (i + 1)) (log-turn i l .x +ℤ log-turn i l .y) = raised (q .u) i _ _ (below-sum l i (q .u) s (q .sum)) pu (omega (arith, q .low-u)) in
+    let sv : Step (2 ^ (i + 1) - 1) (2 ^ (i + 1)) (q .v) (q .v - q .v / 2 ^ (i + 1)) (log-turn i l .x -ℤ log-turn i l .y) = lessened (q .v) i _ _ (below-dif l i (q .v) s (q .dif)) pv (omega (arith, q .low-v)) in
     record {
       u = su .to;
       v = sv .to;
       sum = su .is;
       dif = sv .is;
-      low-u = low-next k _ _ _ (q .low-u) su;
-      low-v = low-next k _ _ _ (q .low-v) sv;
-      above = next-holds (2 ^ (i + 1)) (2 ^ (i + 1) - 1) (2 ^ (i + 1) + 1) a (q .v) (q .u) (sv .to) (su .to) (omega arith) (omega arith) (omega (arith, q .low-v)) (q .above) (sv .near .most) (su .near .least);
-      below = next-holds (2 ^ (i + 1)) (2 ^ (i + 1) + 1) (2 ^ (i + 1) - 1) (max b unit) (q .u) (q .v) (su .to) (sv .to) (omega arith) (omega arith) (omega (arith, q .low-u)) (max-holds b (q .u) (unit * q .v) (q .below) (omega (arith, ints, q .sum, q .dif))) (su .near .most) (sv .near .least);
+      low-u = low-next k (q .u) (su .to) (q .low-u) (omega (arith, su .low));
+      low-v = low-next k (q .v) (sv .to) (q .low-v) (omega (arith, sv .low));
+      above = next-holds (max d (2 ^ 60)) (2 ^ (i + 1)) (2 ^ (i + 1) - 1) (2 ^ (i + 1) + 1) a (q .v) (q .u) (sv .to) (su .to) (omega arith) (omega arith) (omega arith) (omega (arith, q .low-v, q .at-v)) (q .above) (sv .near .most) (su .near .least);
+      below = next-holds (max c (2 ^ 60)) (2 ^ (i + 1)) (2 ^ (i + 1) + 1) (2 ^ (i + 1) - 1) (max b unit) (q .u) (q .v) (su .to) (sv .to) (omega arith) (omega arith) (omega arith) (omega (arith, q .low-u, q .at-u)) (max-holds b (q .u) (unit * q .v) (q .below) (omega (arith, ints, q .sum, q .dif))) (su .near .most) (sv .near .least);
+      at-u = grown-holds k c (q .u) (su .to) (q .at-u) (su .low);
+      at-v = left-holds k d (q .v) (sv .to) (q .at-v) (sv .low);
     }

@@ -18,9 +18,9 @@ pub record Near (f s t t′ : ℕ) : Type 0 where
   pub least : f * t ≤ s * t′ + 2 * s
   pub most : s * t′ ≤ f * t + 2 * s
 
--- the bound p of y / x after a turn that takes x to f / s of it and y to g / s of it
-unfoldable pub next : ℕ → ℕ → ℕ → ℕ → ℕ
-next s f g p = (p * g - (s * (2 * (p * g / f) + 2 * unit) / 2 ^ 60 + 1)) / f
+-- the bound p of y / x after a turn that takes x, which is at least c, to f / s of it and y to g / s of it
+unfoldable pub next : ℕ → ℕ → ℕ → ℕ → ℕ → ℕ
+next c s f g p = (p * g - (s * (2 * (p * g / f) + 2 * unit) / c + 1)) / f
 
 -- the slack e makes up for the units
 with-slack : (s f g p x y x′ y′ p′ e : ℕ) → 0 < s → p′ * f + e ≤ p * g → s * (2 * p′ + 2 * unit) ≤ e * x → p * x ≤ unit * y → s * x′ ≤ f * x + 2 * s → g * y ≤ s * y′ + 2 * s → p′ * x′ ≤ unit * y′
@@ -39,19 +39,20 @@ taken-off n e f h q =
     let d = div-mul-le-self (n - e) f in
     let m = mul-le-mul-left f (positive ((n - e) / f) q) in omega arith
 
-pub next-holds : (s f g p x y x′ y′ : ℕ) → 0 < s → 0 < f → 2 ^ 60 ≤ x → p * x ≤ unit * y → s * x′ ≤ f * x + 2 * s → g * y ≤ s * y′ + 2 * s → next s f g p * x′ ≤ unit * y′
+pub next-holds : (c s f g p x y x′ y′ : ℕ) → 0 < s → 0 < f → 0 < c → c ≤ x → p * x ≤ unit * y → s * x′ ≤ f * x + 2 * s → g * y ≤ s * y′ + 2 * s → next c s f g p * x′ ≤ unit * y′
 unfolding next
-next-holds s f g p x y x′ y′ h l b c d k =
-    let e : ℕ = s * (2 * (p * g / f) + 2 * unit) / 2 ^ 60 + 1 in
+next-holds c s f g p x y x′ y′ h l o b q d k =
+    let e : ℕ = s * (2 * (p * g / f) + 2 * unit) / c + 1 in
     let p′ : ℕ = (p * g - e) / f in
     elim (cases-eq p′ 0) [
       | inl z ↦ rw z (omega arith)
-      | inr q ↦
-          let t : p′ * f + e ≤ p * g = taken-off (p * g) e f l q in
+      | inr z ↦
+          let t : p′ * f + e ≤ p * g = taken-off (p * g) e f l z in
           let w : p′ ≤ p * g / f = le-div p′ (p * g) f l (omega arith) in
           let m = mul-le-mul-left s w in
           let n = mul-le-mul-left e b in
-          with-slack s f g p x y x′ y′ p′ e h t (omega arith) c d k
+          let r = lt-div-mul-add {a = s * (2 * (p * g / f) + 2 * unit)} o in
+          with-slack s f g p x y x′ y′ p′ e h t (omega arith) q d k
     ]
 
 -- a number less its part, and a number with its part
