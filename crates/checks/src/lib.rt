@@ -4,3 +4,7 @@
 mod logs;
 #[cfg(test)]
 mod quantizers;
+#[cfg(test)]
+mod questions;
+#[cfg(test)]
+mod texts;

@@ -26,7 +26,7 @@ parted add test w [] = add w []
 parted add test w (c ∷ cs) = cond (test c) (add w (parted add test [] cs)) (parted add test (w ++ (c ∷ [])) cs)
 
 -- the words of a line: what stands before its comment, cut at white space, without empty pieces
-unfoldable pub words-in : List ℕ → List (List ℕ)
+abbrev pub words-in : List ℕ → List (List ℕ)
 words-in line = parted ended asciiWhite [] (before-comment line)
 
 -- the lines of a text, cut at each line feed, which is byte 10; what follows the last is a line too

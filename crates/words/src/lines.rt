@@ -6,10 +6,11 @@ ghost use lib.Dec.{eqb};
 ghost use Prim.Native.Nat.{_-_, _≤_};
 ghost use lib.ListN.{length, getD, take, drop};
 ghost use Rattle.std.specs.Of.Vec.{vec-items};
+ghost use Rattle.std.specs.Text.{asciiWhite};
 ghost use Rattle.std.specs.Vec.{made};
 ghost use Rattle.std.specs.Words.{Boundary};
 ghost use Rattle.words.specs.Words.{texts};
-ghost use Rattle.words.specs.Lines.{before-comment, ended, words-in, lines-in, LineStart, TextOf};
+ghost use Rattle.words.specs.Lines.{before-comment, ended, parted, words-in, lines-in, LineStart, TextOf};
 use std::alloc::AllocError;
 use std::alloc::Global;
 use std::str::from_utf8;
@@ -61,11 +62,10 @@ fn add_word<'a>(
     Ok(())
 }
 
-// The words of a line before its comment. It refuses only for want of memory.
-pub fn words_of<'a>(heap: Global, line: &'a str) -> Result<Vec<&'a str>, AllocError>
-    ensures { λ r. ⌜ made r (λ ws. texts (vec-items ws) ≡ words-in (now (line .entry))) ⌝ }
+// The pieces of a text between white space, without empty ones.
+fn split_white<'a>(heap: Global, text: &'a str) -> Result<Vec<&'a str>, AllocError>
+    ensures { λ r. ⌜ made r (λ ws. texts (vec-items ws) ≡ parted ended asciiWhite [] (now (text .entry))) ⌝ }
 {
-    let text = before_comment(line);
     let bytes = text.as_bytes();
     let mut words = Vec::new(heap);
     let mut start = 0;
@@ -77,6 +77,13 @@ pub fn words_of<'a>(heap: Global, line: &'a str) -> Result<Vec<&'a str>, AllocEr
     }
     add_word(&mut words, text, start, bytes.len())?;
     Ok(words)
+}
+
+// The words of a line before its comment. It refuses only for want of memory.
+pub fn words_of<'a>(heap: Global, line: &'a str) -> Result<Vec<&'a str>, AllocError>
+    ensures { λ r. ⌜ made r (λ ws. texts (vec-items ws) ≡ words-in (now (line .entry))) ⌝ }
+{
+    split_white(heap, before_comment(line))
 }
 
 // The lines of a text, cut at each line feed; what follows the last one is a line too. A carriage
