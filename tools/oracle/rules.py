@@ -6,7 +6,7 @@
 It is a second writing of the rules, apart from our Rattle and from the original,
 and it answers every question: also those on which the original loses bits, where
 the rules hold a figure at the nearer end of signed 64 bits. FILE has the six
-tables, in our layout (by default crates/quantize/src/tables.rt) or in one of
+tables, in our layout (by default crates/tables/src/tables.rt) or in one of
 another implementation's that tools/tables/compare.py reads.
 """
 
@@ -196,7 +196,7 @@ def tables_of(path):
 
 def main():
     parser = argparse.ArgumentParser(description="Answers the questions of qindex by the rules.")
-    parser.add_argument("--tables", default=compare.ROOT / "crates/quantize/src/tables.rt")
+    parser.add_argument("--tables", default=compare.ROOT / "crates/tables/src/tables.rt")
     tables = tables_of(parser.parse_args().tables)
     for line in sys.stdin:
         words = line.split("#")[0].split()

@@ -3,8 +3,8 @@
 
     tools/tables/compare.py [--code FILE] [--spec FILE] [OTHER ..]
 
-The code's tables (crates/quantize/src/tables.rt) are compared with the
-definitions that the contracts cite (crates/quantize/specs/Tables.antt), and
+The code's tables (crates/tables/src/tables.rt) are compared with the
+definitions that the contracts cite (crates/tables/specs/Tables.antt), and
 then with the tables of each OTHER file. OTHER is a source file of another AV1
 implementation, in one of these layouts, told apart by the names in it:
 
@@ -151,8 +151,8 @@ def compared(ours, others, name):
 
 def main():
     parser = argparse.ArgumentParser(description="Compares AV1's six quantizer tables.")
-    parser.add_argument("--code", default=ROOT / "crates/quantize/src/tables.rt")
-    parser.add_argument("--spec", default=ROOT / "crates/quantize/specs/Tables.antt")
+    parser.add_argument("--code", default=ROOT / "crates/tables/src/tables.rt")
+    parser.add_argument("--spec", default=ROOT / "crates/tables/specs/Tables.antt")
     parser.add_argument("other", nargs="*")
     options = parser.parse_args()
     ours = read(options.code, from_code)
