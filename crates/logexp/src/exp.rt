@@ -117,8 +117,8 @@ fn rounded(w: i64, ipart: u32) -> i64
     }
 }
 
-// The power of two of the logarithm x in Q57, to the nearest whole number: 0 below x = 0, and
-// i64::MAX from 63 on.
+// The power of two of the logarithm x in Q57, in whole numbers: 0 below x = 0, and i64::MAX from 63
+// on.
 pub fn bexp64(x: i64) -> i64
     ensures value { λ r. ⌜ r ≡ bexp64 x ⌝ }
     ensures near { λ r. ⌜ pos 0 ≤ℤ r ⌝ }
