@@ -1,8 +1,9 @@
 -- Laws of both functions in the subject's words: x or n is what was asked, and r is the answer.
-use Prim.Native.Nat.{ℕ, _+_, _*_, _^_, _≤_}
+use Prim.Native.Nat.{ℕ, _+_, _*_, _^_, _≤_, _<_}
 use mathlib.Core.Path.{_≡_}
 use lib.IntN.{ℤ, pos}
 use lib.Signed.{_<ℤ_, _≤ℤ_}
+use Rattle.logexp.specs.LogExp.{bexp64, blog64}
 
 -- the power of two of a whole number k is exact
 abbrev pub Exact-power : ℤ → ℤ → Type 0
@@ -23,3 +24,9 @@ abbrev pub Log-band : ℤ → ℤ → Type 0
 Log-band n r =
     (m : ℕ) → pos (2 ^ m) ≤ℤ n → n <ℤ pos (2 ^ (m + 1))
     → (pos (m * 2 ^ 57) ≤ℤ r) × (r ≤ℤ pos ((m + 1) * 2 ^ 57))
+
+-- the power of the logarithm of a number stays from 2^m up to 2^(m + 1) where the number does
+abbrev pub Octave-kept : Type 0
+Octave-kept =
+    (n m : ℕ) → m ≤ 62 → 2 ^ m ≤ n → n < 2 ^ (m + 1)
+    → (pos (2 ^ m) ≤ℤ bexp64 (blog64 (pos n))) × (bexp64 (blog64 (pos n)) ≤ℤ pos (2 ^ (m + 1)))

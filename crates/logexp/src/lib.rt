@@ -9,5 +9,6 @@ mod turns;
 
 pub use exp::bexp64;
 pub use laws::figures;
+pub use laws::octaves_stand;
 pub use laws::power_test_stands;
 pub use log::blog64;
