@@ -31,11 +31,11 @@ unfoldable rest : ℕ → ℕ → ℕ
 rest zero k = 0
 rest (suc n) k = angle k + rest n (suc k)
 
-unfoldable walk : ℕ → ℕ → Log → Log
+unfoldable pub walk : ℕ → ℕ → Log → Log
 walk zero k l = l
 walk (suc n) k l = walk n (suc k) (log-turn (step k) l)
 
-turns-walk : (w n k : ℕ) → walk n k (log-turns w k) ≡ log-turns w (k + n)
+pub turns-walk : (w n k : ℕ) → walk n k (log-turns w k) ≡ log-turns w (k + n)
 unfolding walk log-turns
 turns-walk w zero k = let e : k ≡ k + 0 = omega arith in ap (log-turns w) e
 turns-walk w (suc n) k = let e : suc k + n ≡ k + suc n = omega arith in turns-walk w n (suc k) ∙ ap (log-turns w) e
