@@ -127,11 +127,11 @@ quick-walk zero k l x y z h i a = a .z-is
 quick-walk (suc n) k l x y z h i a =
     elim (sign-of (l .y)) [
       | inl s ↦
-        rw (lt-ltb y (2 ^ 63) (omega (arith, ints, a .y-is)), quick)
-        (quick-walk n (suc k) (log-turn (step k) l) _ _ _ (omega arith) (log-next k l (omega arith) i) (next-below k l x y z (omega arith) i s a))
+          rw (lt-ltb y (2 ^ 63) (omega (arith, ints, a .y-is)), quick)
+          (quick-walk n (suc k) (log-turn (step k) l) _ _ _ (omega arith) (log-next k l (omega arith) i) (next-below k l x y z (omega arith) i s a))
       | inr s ↦
-        rw (le-ltb y (2 ^ 63) (omega (arith, ints, a .y-is)), quick)
-        (quick-walk n (suc k) (log-turn (step k) l) _ _ _ (omega arith) (log-next k l (omega arith) i) (next-above k l x y z (omega arith) i s a))
+          rw (le-ltb y (2 ^ 63) (omega (arith, ints, a .y-is)), quick)
+          (quick-walk n (suc k) (log-turn (step k) l) _ _ _ (omega arith) (log-next k l (omega arith) i) (next-above k l x y z (omega arith) i s a))
     ]
 
 starts : (w : ℕ) → 2 ^ 61 ≤ w → w < 2 ^ 62 → As (log-turns w 0) (w + 2 ^ 61) (w - 2 ^ 61 + 2 ^ 63) (2 ^ 63)

@@ -1,20 +1,20 @@
 -- The numbers n from 2^11 to 2^12 by one computed test: the fractions of their logarithms rise, and the
 -- power of each fraction is nearer to n than a half.
-use Prim.Native.Nat.{ℕ, zero, suc, _+_, _-_, _*_, _^_, _≤_, _<_}
+use Prim.Native.Nat.{ℕ, zero, suc, _+_, _-_, _*_, _/_, _^_, _≤_, _<_}
 use native.Mathlib.Omega.{arith}
 use mathlib.Core.Path.{_≡_, refl, sym, subst}
 use mathlib.Core.Bool.{Bool, true, _&&_}
 use lib.Dec.{leb, ltb}
-use lib.IntN.{ℤ, pos, negsuc, natAbs, _+ℤ_, _*ℤ_}
+use lib.IntN.{ℤ, pos, negsuc, natAbs, _*ℤ_}
 use lib.Signed.{_<ℤ_, ltZ}
 use Rattle.std.proofs.shelf.Signed.{ints}
 use Rattle.std.proofs.shelf.Tests.{and-parts, leb-true, ltb-true}
-use Rattle.logexp.specs.Cordic.{shr}
-use Rattle.logexp.specs.LogExp.{exp-turns, log-turns, computing}
+use Rattle.logexp.specs.LogExp.{exp-turns, computing}
+use Rattle.logexp.proofs.Quick.{entries, quick, quick-z}
 
 -- the fraction of the logarithm of n / 2^11, in Q57
 unfoldable pub part : ℕ → ℤ
-part n = shr (log-turns (n * 2 ^ 50) 65 .z +ℤ pos 8) 4
+part n = pos ((quick-z (n * 2 ^ 50) + 8 - 2 ^ 63) / 16)
 
 -- the power of the fraction f, in Q61
 unfoldable pub power : ℤ → ℕ
@@ -49,7 +49,7 @@ abbrev pub octave : ℕ
 octave = 2 ^ 11
 
 scanned : scan (octave - 1) octave (pos 0) ≡ true
-unfolding scan forced part power good computing
+unfolding scan forced part power good quick-z quick entries computing
 scanned = refl
 
 -- ---- what the test gives
@@ -98,7 +98,7 @@ scan-holds (suc k) n f e t d h =
     here k n d h (record { rises = subst (λ (v : ℤ). v <ℤ part (suc n)) e (lt-of f g (q .0)); is-good = good-holds (suc n) g (q .1) }) (scan-holds k (suc n) g refl (p .1))
 
 pub part-zero : part octave ≡ pos 0
-unfolding part computing
+unfolding part quick-z quick entries computing
 part-zero = refl
 
 after : (n : ℕ) → octave ≤ n → suc n < 2 * octave → After n

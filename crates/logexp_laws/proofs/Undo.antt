@@ -17,6 +17,8 @@ use Rattle.logexp.specs.LogExp.{exp-turns, scaled, rounded, bexp64, log-turns, 
 use Rattle.logexp.proofs.ExpTurns.{tail-none, exp-turns-in}
 use Rattle.logexp.proofs.ExpEnds.{bexp-mid, scaled-other, rounded-off}
 use Rattle.logexp.proofs.LogTurns.{parts-whole, parts-other, top, blog-is, below-pow}
+use Rattle.logexp.proofs.LogBand.{z-fine}
+use Rattle.logexp.proofs.Quick.{quick-z, quick-z-is}
 use Rattle.logexp.proofs.ExactPowers.{exact-power, exact-log}
 use Rattle.logexp_laws.specs.Undone.{Undone, Rising}
 use Rattle.logexp_laws.proofs.Octave.{part, power, octave, Good, part-zero, is-good-at, rises-by}
@@ -52,14 +54,35 @@ moved-is : (i n : ℕ) → i ≤ 11 → moved i n ≡ (n * 2 ^ (11 - i)) * 2 ^ 5
 unfolding moved
 moved-is i n h = rw (le-ltb 61 i (omega arith), scale-of i h) (omega arith)
 
-log-is : (i n : ℕ) → i ≤ 11 → 2 ^ i ≤ n → n < 2 ^ (i + 1) → n < 2 ^ 63 → blog64 (pos n) ≡ pos (i * 2 ^ 57) +ℤ part (n * 2 ^ (11 - i))
+-- n * 2^(11 - i) lies in the octave, as far from its start as n does from 2^i
+inside : (n i d : ℕ) → i ≤ 11 → 2 ^ i + d ≤ n → n < 2 ^ (i + 1) → (octave + d * 2 ^ (11 - i) ≤ n * 2 ^ (11 - i)) × (n * 2 ^ (11 - i) + 2 ^ (11 - i) ≤ 2 * octave)
+inside n i d h low high =
+    let e : i + (11 - i) ≡ 11 = omega arith in
+    let o : 2 ^ i * 2 ^ (11 - i) ≡ octave = sym (pow-add 2 i (11 - i)) ∙ ap (λ (j : ℕ). 2 ^ j) e in
+    let u : 2 ^ (i + 1) * 2 ^ (11 - i) ≡ 2 * (2 ^ i * 2 ^ (11 - i)) = ap (λ (j : ℕ). j * 2 ^ (11 - i)) (pow-add 2 i 1) ∙ omega arith in
+    let a = mul-le-mul-right (2 ^ (11 - i)) low in
+    let b = mul-le-mul-right (2 ^ (11 - i)) high in
+    let c = suc-mul n (2 ^ (11 - i)) in (omega arith, omega arith)
+
+shifted : (z : ℤ) (q : ℕ) → z +ℤ pos (2 ^ 63) ≡ pos q → negsuc 7 ≤ℤ z → shr (z +ℤ pos 8) 4 ≡ pos ((q + 8 - 2 ^ 63) / 16)
+shifted z q e h =
+    let s : z +ℤ pos 8 ≡ pos (q + 8 - 2 ^ 63) = omega (arith, ints) in ap (λ (v : ℤ). shr v 4) s
+
+-- the fraction by the definition's turns
+part-is : (n : ℕ) → octave ≤ n → n < 2 * octave → shr (log-turns (n * 2 ^ 50) 65 .z +ℤ pos 8) 4 ≡ part n
 unfolding part
+part-is n h g =
+    shifted (log-turns (n * 2 ^ 50) 65 .z) (quick-z (n * 2 ^ 50)) (quick-z-is (n * 2 ^ 50) (omega arith) (omega arith)) (z-fine (n * 2 ^ 50) (omega arith) (omega arith) .least)
+
+log-is : (i n : ℕ) → i ≤ 11 → 2 ^ i ≤ n → n < 2 ^ (i + 1) → n < 2 ^ 63 → blog64 (pos n) ≡ pos (i * 2 ^ 57) +ℤ part (n * 2 ^ (11 - i))
 log-is i n h low high m =
     let p : 0 < n = omega (arith, pow-pos i) in
+    let r = inside n i 0 h (omega arith) high in
     blog-is (pos n) n refl p
     ∙ ap (λ (j : ℕ). blog-parts j (moved j n)) (place-is i n p m low high)
     ∙ ap (blog-parts i) (moved-is i n h)
     ∙ parts-any i ((n * 2 ^ (11 - i)) * 2 ^ 50)
+    ∙ ap (λ (v : ℤ). pos (i * 2 ^ 57) +ℤ v) (part-is (n * 2 ^ (11 - i)) (omega (arith, r)) (omega (arith, r, pow-pos (11 - i))))
 
 -- the power of the whole part i and the fraction f
 power-is : (i f : ℕ) → i ≤ 11 → 0 < f → f < 2 ^ 57 → bexp64 (pos (i * 2 ^ 57 + f)) ≡ shr (shr (held (held (exp-turns (pos f *ℤ pos 32) 34 .w *ℤ pos 2) +ℤ pos 0)) (61 - i) +ℤ pos 1) 1
@@ -104,16 +127,6 @@ placed n h g =
     let t = top n h (omega arith) in
     let s : 2 ^ ipart-of n < 2 ^ 12 = omega (arith, t .1) in
     record { at = ipart-of n; small = omega (arith, below-pow (ipart-of n) 12 s); low = t .1; high = t .2 }
-
--- n * 2^(11 - i) lies in the octave, as far from its start as n does from 2^i
-inside : (n i d : ℕ) → i ≤ 11 → 2 ^ i + d ≤ n → n < 2 ^ (i + 1) → (octave + d * 2 ^ (11 - i) ≤ n * 2 ^ (11 - i)) × (n * 2 ^ (11 - i) + 2 ^ (11 - i) ≤ 2 * octave)
-inside n i d h low high =
-    let e : i + (11 - i) ≡ 11 = omega arith in
-    let o : 2 ^ i * 2 ^ (11 - i) ≡ octave = sym (pow-add 2 i (11 - i)) ∙ ap (λ (j : ℕ). 2 ^ j) e in
-    let u : 2 ^ (i + 1) * 2 ^ (11 - i) ≡ 2 * (2 ^ i * 2 ^ (11 - i)) = ap (λ (j : ℕ). j * 2 ^ (11 - i)) (pow-add 2 i 1) ∙ omega arith in
-    let a = mul-le-mul-right (2 ^ (11 - i)) low in
-    let b = mul-le-mul-right (2 ^ (11 - i)) high in
-    let c = suc-mul n (2 ^ (11 - i)) in (omega arith, omega arith)
 
 undone-at : (n i : ℕ) → i ≤ 11 → 2 ^ i < n → n < 2 ^ (i + 1) → n < 4096 → bexp64 (blog64 (pos n)) ≡ pos n
 unfolding power
