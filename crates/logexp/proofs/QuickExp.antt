@@ -99,11 +99,11 @@ quick-turns (suc n) k z₀ w z b h a =
     let i = exp-turns-in z₀ k b (omega arith) in
     elim (sign-of (exp-turns z₀ k .z)) [
       | inl s ↦
-        rw (lt-ltb z (2 ^ 63) (omega (arith, ints, a .z-is)), quick-exp)
-        (ap (λ (j : ℕ). exp-turns z₀ j .w) e ∙ quick-turns n (suc k) z₀ _ _ b (omega arith) (next-below k (exp-turns z₀ k) w z (omega arith) i s a))
+          rw (lt-ltb z (2 ^ 63) (omega (arith, ints, a .z-is)), quick-exp)
+          (ap (λ (j : ℕ). exp-turns z₀ j .w) e ∙ quick-turns n (suc k) z₀ _ _ b (omega arith) (next-below k (exp-turns z₀ k) w z (omega arith) i s a))
       | inr s ↦
-        rw (le-ltb z (2 ^ 63) (omega (arith, ints, a .z-is)), quick-exp)
-        (ap (λ (j : ℕ). exp-turns z₀ j .w) e ∙ quick-turns n (suc k) z₀ _ _ b (omega arith) (next-above k (exp-turns z₀ k) w z (omega arith) i s a))
+          rw (le-ltb z (2 ^ 63) (omega (arith, ints, a .z-is)), quick-exp)
+          (ap (λ (j : ℕ). exp-turns z₀ j .w) e ∙ quick-turns n (suc k) z₀ _ _ b (omega arith) (next-above k (exp-turns z₀ k) w z (omega arith) i s a))
     ]
 
 -- the power after all the turns for z

@@ -5,12 +5,13 @@ use native.Mathlib.Omega.{arith}
 use mathlib.Core.Path.{_≡_, refl, sym, subst}
 use mathlib.Core.Bool.{Bool, true, _&&_}
 use lib.Dec.{leb, ltb}
-use lib.IntN.{ℤ, pos, negsuc, natAbs, _*ℤ_}
+use lib.IntN.{ℤ, pos, negsuc}
 use lib.Signed.{_<ℤ_, ltZ}
 use Rattle.std.proofs.shelf.Signed.{ints}
 use Rattle.std.proofs.shelf.Tests.{and-parts, leb-true, ltb-true}
-use Rattle.logexp.specs.LogExp.{exp-turns, computing}
+use Rattle.logexp.specs.LogExp.{computing}
 use Rattle.logexp.proofs.Quick.{entries, quick, quick-z}
+use Rattle.logexp.proofs.QuickExp.{exp-entries, quick-exp, quick-w}
 
 -- the fraction of the logarithm of n / 2^11, in Q57
 unfoldable pub part : ℕ → ℤ
@@ -18,7 +19,8 @@ part n = pos ((quick-z (n * 2 ^ 50) + 8 - 2 ^ 63) / 16)
 
 -- the power of the fraction f, in Q61
 unfoldable pub power : ℤ → ℕ
-power f = natAbs (exp-turns (f *ℤ pos 32) 34 .w)
+power (pos n) = quick-w (n * 32)
+power (negsuc n) = 0
 
 -- f is a fraction, not 0, and its power is nearer to n / 2^11 than half of 1 / 2^11
 unfoldable good : ℕ → ℤ → Bool
@@ -49,7 +51,7 @@ abbrev pub octave : ℕ
 octave = 2 ^ 11
 
 scanned : scan (octave - 1) octave (pos 0) ≡ true
-unfolding scan forced part power good quick-z quick entries computing
+unfolding scan forced part power good quick-z quick entries quick-w quick-exp exp-entries computing
 scanned = refl
 
 -- ---- what the test gives

@@ -19,6 +19,7 @@ use Rattle.logexp.proofs.ExpEnds.{bexp-mid, scaled-other, rounded-off}
 use Rattle.logexp.proofs.LogTurns.{parts-whole, parts-other, top, blog-is, below-pow}
 use Rattle.logexp.proofs.LogBand.{z-fine}
 use Rattle.logexp.proofs.Quick.{quick-z, quick-z-is}
+use Rattle.logexp.proofs.QuickExp.{quick-w, quick-w-is}
 use Rattle.logexp.proofs.ExactPowers.{exact-power, exact-log}
 use Rattle.logexp_laws.specs.Undone.{Undone, Rising}
 use Rattle.logexp_laws.proofs.Octave.{part, power, octave, Good, part-zero, is-good-at, rises-by}
@@ -144,8 +145,10 @@ undone-at (suc k) i h low high m =
     let f₁ : 0 < f = omega (arith, ints, g .least) in
     let f₂ : f < 2 ^ 57 = omega (arith, ints, g .least, g .most) in
     let w = exp-turns-in (pos f *ℤ pos 32) 34 (omega (arith, ints)) (omega arith) .w-least in
-    let v = ap power e in
-    ap bexp64 l ∙ power-is i f h f₁ f₂ ∙ round-to (exp-turns (pos f *ℤ pos 32) 34 .w) i k h w to (subst (λ (q : ℤ). n * 2 ^ 50 ≤ power q + 2 ^ 49) e (g .low)) (subst (λ (q : ℤ). power q < n * 2 ^ 50 + 2 ^ 49) e (g .high))
+    let v : natAbs (exp-turns (pos f *ℤ pos 32) 34 .w) ≡ quick-w (f * 32) = ap natAbs (quick-w-is (f * 32) (omega arith)) in
+    let low′ = subst (λ (q : ℤ). n * 2 ^ 50 ≤ power q + 2 ^ 49) e (g .low) in
+    let high′ = subst (λ (q : ℤ). power q < n * 2 ^ 50 + 2 ^ 49) e (g .high) in
+    ap bexp64 l ∙ power-is i f h f₁ f₂ ∙ round-to (exp-turns (pos f *ℤ pos 32) 34 .w) i k h w to (omega (arith, low′)) (omega (arith, high′))
 
 pub undone : Undone 4096
 undone n h g =
