@@ -1,4 +1,4 @@
--- The numbers n from 2^11 to 2^12 by one computed test: the fractions of their logarithms rise, and the
+-- The numbers n from 2^12 to 2^13 by one computed test: the fractions of their logarithms rise, and the
 -- power of each fraction is nearer to n than a half.
 use Prim.Native.Nat.{ℕ, zero, suc, _+_, _-_, _*_, _/_, _^_, _≤_, _<_}
 use native.Mathlib.Omega.{arith}
@@ -13,20 +13,20 @@ use Rattle.logexp.specs.LogExp.{computing}
 use Rattle.logexp.proofs.Quick.{entries, quick, quick-z}
 use Rattle.logexp.proofs.QuickExp.{exp-entries, quick-exp, quick-w}
 
--- the fraction of the logarithm of n / 2^11, in Q57
+-- the fraction of the logarithm of n / 2^12, in Q57
 unfoldable pub part : ℕ → ℤ
-part n = pos ((quick-z (n * 2 ^ 50) + 8 - 2 ^ 63) / 16)
+part n = pos ((quick-z (n * 2 ^ 49) + 8 - 2 ^ 63) / 16)
 
 -- the power of the fraction f, in Q61
 unfoldable pub power : ℤ → ℕ
 power (pos n) = quick-w (n * 32)
 power (negsuc n) = 0
 
--- f is a fraction, not 0, and its power is nearer to n / 2^11 than half of 1 / 2^11
+-- f is a fraction, not 0, and its power is nearer to n / 2^12 than half of 1 / 2^12
 unfoldable good : ℕ → ℤ → Bool
 good n f =
     (ltZ (pos 0) f && ltZ f (pos (2 ^ 57)))
-    && (leb (n * 2 ^ 50) (power f + 2 ^ 49) && ltb (power f) (n * 2 ^ 50 + 2 ^ 49))
+    && (leb (n * 2 ^ 49) (power f + 2 ^ 48) && ltb (power f) (n * 2 ^ 49 + 2 ^ 48))
 
 -- f a, with a computed first
 unfoldable forced : ℤ → (ℤ → Bool) → Bool
@@ -48,7 +48,7 @@ scan zero n f = true
 scan (suc k) n f = forced (part (suc n)) (λ g. (ltZ f g && good (suc n) g) && scan k (suc n) g)
 
 abbrev pub octave : ℕ
-octave = 2 ^ 11
+octave = 2 ^ 12
 
 scanned : scan (octave - 1) octave (pos 0) ≡ true
 unfolding scan forced part power good quick-z quick entries quick-w quick-exp exp-entries computing
@@ -59,8 +59,8 @@ scanned = refl
 pub record Good (n : ℕ) (f : ℤ) : Type 0 where
   pub least : pos 0 <ℤ f
   pub most : f <ℤ pos (2 ^ 57)
-  pub low : n * 2 ^ 50 ≤ power f + 2 ^ 49
-  pub high : power f < n * 2 ^ 50 + 2 ^ 49
+  pub low : n * 2 ^ 49 ≤ power f + 2 ^ 48
+  pub high : power f < n * 2 ^ 49 + 2 ^ 48
 
 lt-of : (a b : ℤ) → ltZ a b ≡ true → a <ℤ b
 lt-of a b t = grind (arith, ints)
@@ -77,8 +77,8 @@ good-holds n f t =
     record {
       least = lt-of (pos 0) f (q .0);
       most = lt-of f (pos (2 ^ 57)) (q .1);
-      low = leb-true (n * 2 ^ 50) (power f + 2 ^ 49) (r .0);
-      high = ltb-true (power f) (n * 2 ^ 50 + 2 ^ 49) (r .1);
+      low = leb-true (n * 2 ^ 49) (power f + 2 ^ 48) (r .0);
+      high = ltb-true (power f) (n * 2 ^ 49 + 2 ^ 48) (r .1);
     }
 
 -- the number after n, with its fraction
