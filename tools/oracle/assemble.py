@@ -3,11 +3,13 @@
 
     tools/oracle/assemble.py RAV1E_DIR OUT_DIR
 
-It writes two Rust programs, which build.sh compiles:
+It writes two Rust programs, each in two ways, which build.sh compiles:
 
-    OUT_DIR/plain/     the original's functions as they are, but for visibility
-    OUT_DIR/checked/   the same with the edits of CHECKED below, so that a figure
-                       which would lose bits stops the question
+    OUT_DIR/plain/             the original's functions as they are, but for visibility
+    OUT_DIR/checked/           the same with the edits of CHECKED below, so that a figure
+                               which would lose bits stops the question
+    OUT_DIR/lessons/plain/     the parts of the rate control that are its curve model
+    OUT_DIR/lessons/checked/   the same with the edits of CHECKED in curve_pieces.py
 
 Nothing of the original is kept in this repository: every piece is read from
 RAV1E_DIR when this is run. A piece that is not found, or an edit whose text does
@@ -15,57 +17,10 @@ not stand there as often as expected, ends the run with status 1.
 """
 
 import pathlib
-import re
-import shutil
 import sys
 
-HERE = pathlib.Path(__file__).resolve().parent
-
-
-class Missing(Exception):
-    """What the sources given should have, and have not."""
-
-
-# ---- cutting
-
-def piece(text, file, kind, name):
-    """The item of that kind and name, from its first word to its closing brace or semicolon."""
-    before = r"^[ \t]*(?:pub(?:\([a-z]+\))?[ \t]+)?"
-    words = {"fn": r"(?:const[ \t]+)?fn", "const": r"const", "struct": r"struct"}[kind]
-    found = re.findall(before + words + r"[ \t]+" + name + r"\b", text, flags=re.M)
-    if len(found) != 1:
-        raise Missing(f"{file}: {len(found)} items '{kind} {name}' where one was expected")
-    start = re.search(before + words + r"[ \t]+" + name + r"\b", text, flags=re.M).start()
-    closing = ";" if kind == "const" else "}"
-    depth = 0
-    at = start
-    while at < len(text):
-        if text.startswith("//", at):
-            at = text.find("\n", at)
-            if at < 0:
-                break
-        elif text[at] == '"':
-            at = text.find('"', at + 1)
-            if at < 0:
-                break
-        elif text[at] in "([{":
-            depth += 1
-        elif text[at] in ")]}":
-            depth -= 1
-        if depth == 0 and text[at] == closing:
-            return text[start:at + 1]
-        at += 1
-    raise Missing(f"{file}: '{kind} {name}' has no end")
-
-
-def edited(text, file, edits):
-    """The text with each edit made; an edit is (old, new, times, why)."""
-    for old, new, times, _why in edits:
-        if text.count(old) != times:
-            raise Missing(f"{file}: {text.count(old)} times, not {times}, the text to edit: {old!r}")
-        text = text.replace(old, new)
-    return text
-
+import curve_pieces
+from cutting import Missing, edited_all, piece, read, sources, write
 
 # ---- what is cut
 
@@ -127,21 +82,6 @@ CHECKED = {
 }
 
 
-def sources(directory):
-    """The folder with rate.rs: RAV1E_DIR/src, or RAV1E_DIR itself."""
-    for folder in (directory / "src", directory):
-        if (folder / "rate.rs").is_file():
-            return folder
-    raise Missing(f"{directory}: neither src/rate.rs nor rate.rs; give the folder of rav1e 0.8.1's crate")
-
-
-def read(folder, name):
-    try:
-        return (folder / name).read_text(encoding="utf-8")
-    except (OSError, UnicodeDecodeError) as error:
-        raise Missing(f"{folder / name}: {error}") from error
-
-
 def assembled(folder):
     """The files of the plain program, by name."""
     logexp, quantize, rate = (read(folder, name) for name in ("util/logexp.rs", "quantize/mod.rs", "rate.rs"))
@@ -162,28 +102,25 @@ def assembled(folder):
             "pub struct RCState;",
         ] + [piece(rate, "rate.rs", *what) for what in RATE] + methods,
     }
-    return {name: edited("\n\n".join(parts) + "\n", name, VISIBLE.get(name, [])) for name, parts in files.items()}
-
-
-def write(folder, files):
-    folder.mkdir(parents=True, exist_ok=True)
-    for name, text in files.items():
-        (folder / name).write_text(text, encoding="utf-8")
-    shutil.copyfile(HERE / "qindex.rs", folder / "main.rs")
-    shutil.copyfile(HERE / "checks.rs", folder / "checks.rs")
+    return edited_all({name: "\n\n".join(parts) + "\n" for name, parts in files.items()}, VISIBLE)
 
 
 def main():
     if len(sys.argv) != 3:
         sys.exit("use: assemble.py RAV1E_DIR OUT_DIR")
     try:
-        plain = assembled(sources(pathlib.Path(sys.argv[1])))
-        checked = {name: edited(text, name, CHECKED.get(name, [])) for name, text in plain.items()}
+        folder = sources(pathlib.Path(sys.argv[1]))
+        plain = assembled(folder)
+        checked = edited_all(plain, CHECKED)
+        plain_curve = curve_pieces.assembled(folder)
+        checked_curve = edited_all(edited_all(plain_curve, {"logexp.rs": CHECKED["logexp.rs"]}), curve_pieces.CHECKED)
     except Missing as missing:
         sys.exit(f"assemble.py: {missing}")
     out = pathlib.Path(sys.argv[2])
-    write(out / "plain", plain)
-    write(out / "checked", checked)
+    write(out / "plain", plain, "qindex.rs")
+    write(out / "checked", checked, "qindex.rs")
+    write(out / "lessons" / "plain", plain_curve, "curve.rs")
+    write(out / "lessons" / "checked", checked_curve, "curve.rs")
 
 
 main()

@@ -4,12 +4,12 @@
 #   tools/oracle/build.sh RAV1E_DIR [OUT_DIR]
 #
 # RAV1E_DIR is the folder of the crate (it has src/rate.rs). OUT_DIR, by default
-# target/oracle of this repository, gets three programs, which read the same
-# lines as our qindex:
+# target/oracle of this repository, gets six programs. Three read the same lines
+# as our qindex, and three those of our lessons:
 #
-#   qindex-oracle   the original with its lost bits caught: 'overflow' there
-#   qindex-debug    the original as a debug build has it: 'panic: ..' there
-#   qindex-release  the original as a release build has it: figures wrap
+#   qindex-oracle, lessons-oracle    the original with its lost bits caught: 'overflow' there
+#   qindex-debug, lessons-debug      the original as a debug build has it: 'panic: ..' there
+#   qindex-release, lessons-release  the original as a release build has it: figures wrap
 #
 # It needs Python 3 and rustc, and neither cargo nor another crate.
 set -eu
@@ -22,13 +22,17 @@ here=$(cd "$(dirname "$0")" && pwd)
 out=${2:-$here/../../target/oracle}
 
 mkdir -p "$out"
-python3 "$here/assemble.py" "$1" "$out"
+python3 -B "$here/assemble.py" "$1" "$out"
 
 compile() {
     rustc --edition 2021 -O "$@"
 }
 checks='-C overflow-checks=on -C debug-assertions=on'
-compile $checks -o "$out/qindex-oracle" "$out/checked/main.rs"
-compile $checks --cfg plain -o "$out/qindex-debug" "$out/plain/main.rs"
-compile --cfg plain -o "$out/qindex-release" "$out/plain/main.rs"
+three() {
+    compile $checks -o "$out/$1-oracle" "$2/checked/main.rs"
+    compile $checks --cfg plain -o "$out/$1-debug" "$2/plain/main.rs"
+    compile --cfg plain -o "$out/$1-release" "$2/plain/main.rs"
+}
+three qindex "$out"
+three lessons "$out/lessons"
 echo "$(cd "$out" && pwd)"

@@ -1,0 +1,2 @@
+-- The root of the lemmas.
+pub mod Rows
