@@ -8,15 +8,15 @@ pub returns-then-ipart-le30 : goal.returns-then-ipart-le30
 returns-then-ipart-le30 c =
     record { value = sym (tail_none c.args.ipart c.args.e c.if-ipart-le30.true); near = omega (arith, ints) }
 
-pub tail-turn-t-requires : goal.tail-turn-t-requires
-tail-turn-t-requires c = (c.loop-k-test.true, tail_inv c.args.e c.loop-k.k c.loop-k.t (search rules) c.loop-k.auto.k-end c.requires c.loop-k.invariant)
+pub tail_turn-t-requires : goal.tail_turn-t-requires
+tail_turn-t-requires c = (c.loop-k-test.true, tail_inv c.args.e c.loop-k.k c.loop-k.t (search rules) c.loop-k.auto.k-end c.requires c.loop-k.invariant)
 
 pub loop-k-init : goal.loop-k-init
 unfolding tail_turns
 loop-k-init c = same_tail _ _ refl (to_z-of_z w64 c.args.e.z (search rules))
 
 pub loop-k-preserved : goal.loop-k-preserved
-loop-k-preserved c = tail_again c.args.e c.loop-k.k c.loop-k.t c.tail-turn-t.result (search rules) c.loop-k.invariant c.tail-turn-t.ensures
+loop-k-preserved c = tail_again c.args.e c.loop-k.k c.loop-k.t c.tail_turn-t.result (search rules) c.loop-k.invariant c.tail_turn-t.ensures
 
 pub returns : goal.returns
 returns c =

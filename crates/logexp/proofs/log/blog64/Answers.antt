@@ -17,9 +17,9 @@ moved-requires c =
     let m : ℕ = nat_abs (to_z w64 (of_z w64 c.args.n)) in
     let t = top m (omega (arith, ints)) (omega (arith, ints)) in (t.0, (t.1, t.2))
 
-pub blog-parts-requires : goal.blog-parts-requires
+pub blog_parts-requires : goal.blog_parts-requires
 unfolding ipart_of
-blog-parts-requires c =
+blog_parts-requires c =
     let m : ℕ = nat_abs (to_z w64 (of_z w64 c.args.n)) in
     let t = top m (omega (arith, ints)) (omega (arith, ints)) in (t.0, (c.moved.ensures.least, c.moved.ensures.most))
 
@@ -30,9 +30,9 @@ returns c =
     let e : c.args.n ≡ pos m = omega (arith, ints) in
     let p : 0 < m = omega (arith, ints) in
     let t = top m p (omega (arith, ints)) in
-    let b : c.blog-parts.result ≡ blog_parts (ipart_of m) c.moved.result = c.blog-parts.ensures in
-    let v : c.blog-parts.result ≡ blog64 c.args.n = b ∙ ap (blog_parts (ipart_of m)) c.moved.ensures.value ∙ sym (blog_is c.args.n m e p) in
-    let r : to_z w64 (of_z w64 c.blog-parts.result) ≡ blog64 c.args.n = omega (arith, ints, v) in
+    let b : c.blog_parts.result ≡ blog_parts (ipart_of m) c.moved.result = c.blog_parts.ensures in
+    let v : c.blog_parts.result ≡ blog64 c.args.n = b ∙ ap (blog_parts (ipart_of m)) c.moved.ensures.value ∙ sym (blog_is c.args.n m e p) in
+    let r : to_z w64 (of_z w64 c.blog_parts.result) ≡ blog64 c.args.n = omega (arith, ints, v) in
     record {
       value = r;
       none = λ h. absurd (omega (arith, ints));

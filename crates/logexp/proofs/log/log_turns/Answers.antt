@@ -8,8 +8,8 @@ pub loop-k-init : goal.loop-k-init
 unfolding log_turns
 loop-k-init c = same_log _ _ (omega (arith, ints)) (omega (arith, ints)) refl
 
-pub log-turn-l-requires : goal.log-turn-l-requires
-log-turn-l-requires c = (c.loop-k-test.true, log_inv c.args.w c.loop-k.k c.loop-k.l c.requires.0 c.requires.1 c.loop-k.auto.k-end c.loop-k.invariant)
+pub log_turn-l-requires : goal.log_turn-l-requires
+log_turn-l-requires c = (c.loop-k-test.true, log_inv c.args.w c.loop-k.k c.loop-k.l c.requires.0 c.requires.1 c.loop-k.auto.k-end c.loop-k.invariant)
 
 pub loop-k-preserved : goal.loop-k-preserved
-loop-k-preserved c = log_turns_more c.args.w c.loop-k.k c.loop-k.l c.log-turn-l.result c.loop-k.invariant c.log-turn-l.ensures
+loop-k-preserved c = log_turns_more c.args.w c.loop-k.k c.loop-k.l c.log_turn-l.result c.loop-k.invariant c.log_turn-l.ensures

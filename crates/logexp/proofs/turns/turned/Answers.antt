@@ -8,20 +8,20 @@ use Rattle.logexp.proofs.turns.turned.Goals.{After-along}
 -- what is taken from z
 taken : (c : goal.After-along) → c.along.result ≡ along c.args.z (pos (atanh (step c.args.k)))
 taken c =
-    turned_by c.args.k c.step-of-i.result c.args.z c.atanh-at.result c.along.result c.ranges.z
-    c.step-of-i.ensures.value c.atanh-at.ensures c.along.ensures
+    turned_by c.args.k c.step_of-i.result c.args.z c.atanh_at.result c.along.result c.ranges.z
+    c.step_of-i.ensures.value c.atanh_at.ensures c.along.ensures
 
-pub overflow-sub-left : goal.overflow-sub-left
-overflow-sub-left c = omega (arith, ints, taken c, left_small c.args.k c.args.z (search rules) (search rules))
+pub overflow_sub-left : goal.overflow_sub-left
+overflow_sub-left c = omega (arith, ints, taken c, left_small c.args.k c.args.z (search rules) (search rules))
 
-pub overflow-mul-result : goal.overflow-mul-result
-overflow-mul-result c =
-    omega (arith, ints, taken (goal.at.overflow-mul-result c).After-along, left_small c.args.k c.args.z (search rules) (search rules), turned_small c.args.k c.args.z (search rules) (search rules), turned_twice c.args.k c.args.z (search rules))
+pub overflow_mul-result : goal.overflow_mul-result
+overflow_mul-result c =
+    omega (arith, ints, taken (goal.at.overflow_mul-result c).After-along, left_small c.args.k c.args.z (search rules) (search rules), turned_small c.args.k c.args.z (search rules) (search rules), turned_twice c.args.k c.args.z (search rules))
 
-pub returns-then-step-of-i : goal.returns-then-step-of-i
-returns-then-step-of-i c =
-    omega (arith, ints, taken (goal.at.returns-then-step-of-i c).After-along, left_small c.args.k c.args.z (search rules) (search rules), turned_once c.args.k c.args.z (search rules))
+pub returns-then-step_of-i : goal.returns-then-step_of-i
+returns-then-step_of-i c =
+    omega (arith, ints, taken (goal.at.returns-then-step_of-i c).After-along, left_small c.args.k c.args.z (search rules) (search rules), turned_once c.args.k c.args.z (search rules))
 
-pub returns-else-step-of-i : goal.returns-else-step-of-i
-returns-else-step-of-i c =
-    omega (arith, ints, taken (goal.at.returns-else-step-of-i c).After-along, left_small c.args.k c.args.z (search rules) (search rules), turned_small c.args.k c.args.z (search rules) (search rules), turned_twice c.args.k c.args.z (search rules))
+pub returns-else-step_of-i : goal.returns-else-step_of-i
+returns-else-step_of-i c =
+    omega (arith, ints, taken (goal.at.returns-else-step_of-i c).After-along, left_small c.args.k c.args.z (search rules) (search rules), turned_small c.args.k c.args.z (search rules) (search rules), turned_twice c.args.k c.args.z (search rules))

@@ -5,12 +5,12 @@ use Rattle.outlook.specs.Bytes.{Lawful}
 use Rattle.outlook.specs.EntriesLemmas.{lawful_all, bytes_push}
 use Rattle.outlook.proofs.making.entries_of.Goals as goal
 
-pub invariant-of-push-reserved : goal.invariant-of-push-reserved
-invariant-of-push-reserved c = (All-get_or Lawful c.args.bytes.now c.loop-byte.byte-index 0 c.loop-byte-test.true (lawful_all c.args.bytes.now c.requires), tt)
+pub invariant_of-push_reserved : goal.invariant_of-push_reserved
+invariant_of-push_reserved c = (All-get_or Lawful c.args.bytes.now c.loop-byte.byte-index 0 c.loop-byte-test.true (lawful_all c.args.bytes.now c.requires), tt)
 
 pub loop-byte-preserved : goal.loop-byte-preserved
 loop-byte-preserved c = (
-  bytes_push (vec_items c.loop-byte.items) (vec_items c.push-reserved.new.self) _ c.args.bytes.now c.loop-byte.byte-index c.loop-byte-test.true c.loop-byte.invariant.0 c.push-reserved.ensures.items refl,
+  bytes_push (vec_items c.loop-byte.items) (vec_items c.push_reserved.new.self) _ c.args.bytes.now c.loop-byte.byte-index c.loop-byte-test.true c.loop-byte.invariant.0 c.push_reserved.ensures.items refl,
   omega arith,
   omega arith,
 )

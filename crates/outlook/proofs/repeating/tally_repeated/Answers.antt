@@ -18,17 +18,17 @@ returns-then-units-eq0 c =
     record { value = e; bound = subst (λ (a : Counts). Within 4096 a) (sym e) (repeated_within c.args.units xs) }
 
 -- the whole cycles and the rest together
-together : (c : After-repeat) → both c.repeat.result c.tally-front-rest.result ≡ tally (front c.args.units (repeated (bytes_of c.args.entries.now)))
+together : (c : After-repeat) → both c.repeat.result c.tally_front-rest.result ≡ tally (front c.args.units (repeated (bytes_of c.args.entries.now)))
 together c =
     let xs : List ℕ = bytes_of c.args.entries.now in
     let few : count_by is_shown xs < 4294967295 = omega (arith, count_by-le-length is_shown xs, length_bytes c.args.entries.now) in
-    let cycle : c.tally-front-cycle.result ≡ tally xs = c.tally-front-cycle.ensures.value ∙ ap tally (front_all xs 4294967295 few) in
+    let cycle : c.tally_front-cycle.result ≡ tally xs = c.tally_front-cycle.ensures.value ∙ ap tally (front_all xs 4294967295 few) in
     let none-off : c.part-end.result - 0 ≡ c.part-end.result = omega arith in
-    cycled c.args.entries.now c.args.units c.whole-cycles-whole.result (c.part-end.result - 0) c.tally-front-cycle.result c.repeat.result c.tally-front-rest.result
-    c.requires.0 cycle c.whole-cycles-whole.ensures.bound c.whole-cycles-whole.ensures.under c.whole-cycles-whole.ensures.last (none-off ∙ c.part-end.ensures) c.repeat.ensures c.tally-front-rest.ensures.value
+    cycled c.args.entries.now c.args.units c.whole_cycles-whole.result (c.part-end.result - 0) c.tally_front-cycle.result c.repeat.result c.tally_front-rest.result
+    c.requires.0 cycle c.whole_cycles-whole.ensures.bound c.whole_cycles-whole.ensures.under c.whole_cycles-whole.ensures.last (none-off ∙ c.part-end.ensures) c.repeat.ensures c.tally_front-rest.ensures.value
 
 pub plus-requires : goal.plus-requires
-plus-requires c = cycled_within c.args.units (bytes_of c.args.entries.now) c.repeat.result c.tally-front-rest.result (together c)
+plus-requires c = cycled_within c.args.units (bytes_of c.args.entries.now) c.repeat.result c.tally_front-rest.result (together c)
 
 pub returns : goal.returns
 returns c =

@@ -11,7 +11,7 @@ use Rattle.outlook.proofs.walking.tally_front.Goals as goal
 pub plus-all-requires : goal.plus-all-requires
 plus-all-requires c = (
   walk_within c.args.entries.now c.loop-entry.entry-index c.loop-entry.all c.requires c.loop-entry.invariant.0,
-  subst (λ (a : Counts). Within 4096 a) (sym c.of-one.ensures) (tally_within 4096 (c.entry-item.result.byte ∷ []) (omega arith)),
+  subst (λ (a : Counts). Within 4096 a) (sym c.of_one.ensures) (tally_within 4096 (c.entry-item.result.byte ∷ []) (omega arith)),
 )
 
 pub returns-then-all-units : goal.returns-then-all-units
@@ -29,7 +29,7 @@ loop-entry-preserved c =
     (omega (arith, length_bytes es))
     (byte_at es i c.entry-item.result c.loop-entry-test.true c.entry-item.is)
     c.if-all-units.false
-    (c.plus-all.ensures ∙ ap (both c.loop-entry.all) c.of-one.ensures)
+    (c.plus-all.ensures ∙ ap (both c.loop-entry.all) c.of_one.ensures)
 
 pub returns : goal.returns
 returns c =
