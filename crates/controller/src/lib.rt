@@ -1,5 +1,7 @@
 // The rate controller: one text for every bit model. It rests on `model`, `outlook`, `search`, `aim`, `flat`,
 // `quantize` and `calls`.
+#![tactic(auto)]
+
 mod charging;
 mod choosing;
 mod controller;

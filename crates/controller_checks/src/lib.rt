@@ -1,5 +1,7 @@
 // Tests of the controller from outside: refusals, tickets, reports, and choices at the ends of their operands. They
 // stand in a crate of their own, since a crate with tests is proved twice. `client` shows tickets in use.
+#![tactic(auto)]
+
 #[cfg(test)]
 mod choices;
 mod client;

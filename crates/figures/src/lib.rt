@@ -1,4 +1,6 @@
 // The worked figures, all in one list.
+#![tactic(auto)]
+
 ghost use Rattle.figures.specs.Figures.{Figures};
 
 use model::BitModel;

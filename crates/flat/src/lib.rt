@@ -1,5 +1,7 @@
 // The subtypes of coded frames, the logs of table entries, and the quantizer of an index without rate control.
 // It rests on `logexp` and `tables`.
+#![tactic(auto)]
+
 mod flat;
 mod subtype;
 

@@ -1,5 +1,7 @@
 // A test program, not for users: it makes curves, teaches them and asks them as the lines of standard input say, and
 // prints one answer for each. A line that is none of `line` ends it. It rests on `model` and `words`.
+#![tactic(auto)]
+
 mod answer;
 mod line;
 

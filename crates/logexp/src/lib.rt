@@ -1,6 +1,8 @@
 // The binary logarithm and the binary exponential in whole numbers, by CORDIC: shifts, sums and one
 // table, so that every machine answers the same. Logarithms are signed 64-bit numbers in Q57
 // (2^57 stands for 1), and powers are plain signed 64-bit numbers.
+#![tactic(auto)]
+
 mod exp;
 mod laws;
 mod log;

@@ -1,6 +1,8 @@
 // The logarithm and the exponential undo each other on the numbers that a quantizer table holds. This
 // crate has no code of its own to offer: its function's contract is the law, which takes some seconds to
 // compute.
+#![tactic(auto)]
+
 ghost use Rattle.std.specs.Prelude.{◌≡◌, ℕ, ◌<◌, ◌≤◌};
 ghost use Rattle.logexp_laws.specs.Undone.{Undone, Rising};
 

@@ -1,5 +1,7 @@
 // Bit models: what a frame of a subtype will use at a log quantizer, and the settings that they are made from.
 // It rests on `logexp`, `opening` and `bessel`.
+#![tactic(auto)]
+
 mod bit_model;
 mod curve;
 mod filter;

@@ -1,5 +1,7 @@
 // Tests of the follower, the settings and both bit models from outside, on both sides of every bound. They stand in
 // a crate of their own, since a crate with tests is proved twice.
+#![tactic(auto)]
+
 #[cfg(test)]
 mod curves;
 #[cfg(test)]

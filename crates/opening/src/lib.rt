@@ -1,5 +1,7 @@
 // What a controller and its model are opened with: settings, the eight questions put to them, and the figures that
 // accepted settings give. It rests on `logexp`, `tables` and `quantize`.
+#![tactic(auto)]
+
 mod refusal;
 mod settings;
 

@@ -1,5 +1,7 @@
 // The words of a line: how many there are, which stands at a place, and the number that a word
 // writes. Rests on the standard library alone.
+#![tactic(auto)]
+
 mod numbers;
 mod places;
 

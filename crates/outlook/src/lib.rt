@@ -1,5 +1,7 @@
 // Outlooks: which frames lie ahead. An outlook is a list of entries, one for each coming frame, and counting tells
 // how many of each subtype come within some temporal units. It rests on nothing but `std`.
+#![tactic(auto)]
+
 mod counting;
 mod counts;
 mod entry;

@@ -1,4 +1,6 @@
 // How chroma is sampled, and the log quantizers of a frame's planes. It rests on `logexp` and `tables`.
+#![tactic(auto)]
+
 mod planes;
 mod sampling;
 

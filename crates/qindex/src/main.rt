@@ -1,5 +1,7 @@
 // Answers questions about logarithms and quantizers, one to a line, from standard input to
 // standard output. What is read and answered is `queries`; here it is only passed on.
+#![tactic(auto)]
+
 use anyhow::anyhow;
 use queries::{Query, answer_to, queries};
 use std::io::{BufWriter, Read, Write};

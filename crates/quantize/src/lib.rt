@@ -4,6 +4,8 @@
 // `ac_q`, `dc_q`, `select_ac_qi`, `select_dc_qi` and `QuantizerParameters::new_from_log_q` take raw numbers
 // and refuse a bad one. The methods of `tables::Depth`, and `QuantizerParameters::of`, are the same for a depth and
 // a sampling that are known, for crates above that have asked already.
+#![tactic(auto)]
+
 pub mod answer;
 mod call;
 mod laws;

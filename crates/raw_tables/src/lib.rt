@@ -1,5 +1,7 @@
 // AV1's tables by raw numbers: the entry of an index, and the index that stands for a quantizer. A depth that AV1
 // lacks is refused. It rests on `tables`.
+#![tactic(auto)]
+
 mod call;
 mod refusal;
 

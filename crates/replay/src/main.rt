@@ -1,5 +1,7 @@
 // Replays a script of calls from standard input, and writes a line for each of its lines to standard output. What is
 // read is `scripts`, what is run is `run`, what is written is `replies`; here it is only passed on.
+#![tactic(auto)]
+
 mod player;
 
 use anyhow::anyhow;

@@ -1,5 +1,7 @@
 // What the lines of a script come to: the runs that it is cut into, the calls that a run makes, and what each line is
 // replied. It rests on `scripts` for the lines and on `calls` for calls and their answers.
+#![tactic(auto)]
+
 mod block;
 mod playing;
 mod reply;

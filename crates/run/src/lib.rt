@@ -1,4 +1,6 @@
 // Runs of recorded calls, and the laws of every run.
+#![tactic(auto)]
+
 mod outcome;
 mod running;
 

@@ -1,5 +1,7 @@
 // The search of a choice: what a base log quantizer predicts for the frames ahead, and the bisection that finds the base
 // whose prediction meets a total. It rests on `flat`, and on the interfaces of `model` and `outlook`.
+#![tactic(auto)]
+
 mod ends;
 mod forecast;
 mod found;

@@ -1,6 +1,8 @@
 // Text by lines and words: which bytes are text, the lines of a text and the words of a line. How
 // many words there are, which stands where and the number that each writes is `operands`, which is
 // passed on.
+#![tactic(auto)]
+
 mod lines;
 
 pub use lines::{lines_of, text_of, words_of};

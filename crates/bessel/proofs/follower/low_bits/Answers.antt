@@ -13,4 +13,4 @@ kept v m r f g h p q =
     cc
 
 pub returns : goal.returns
-returns c = kept c.args.v c.rem-euclid.result c.cast-signed.result c.ranges.v (search rules) (search rules) c.rem-euclid.ensures.value c.cast-signed.ensures
+returns c = kept c.args.v c.rem_euclid.result c.cast_signed.result c.ranges.v (search rules) (search rules) c.rem_euclid.ensures.value c.cast_signed.ensures

@@ -5,5 +5,5 @@ use Rattle.bessel.proofs.parameters.delay_tangent.Goals as goal
 
 pub returns : goal.returns
 returns c =
-    let h : c.warp-alpha.result < 2 ^ 17 = c.warp-alpha.ensures.near (alpha_in c.max.result (omega arith)) in
+    let h : c.warp_alpha.result < 2 ^ 17 = c.warp_alpha.ensures.near (alpha_in c.max.result (omega arith)) in
     record { value = cc; least = omega arith; small = omega arith }

@@ -6,32 +6,32 @@ use Rattle.bessel.proofs.Gains.{square_in, parameters_by, in_range_by, balanced_
 use Rattle.bessel.proofs.parameters.iir_bessel2_get_parameters.Goals as goal
 
 pub gain-a-requires : goal.gain-a-requires
-gain-a-requires c = (omega arith, square_in c.delay-tangent-warp.result (omega arith) (omega arith))
+gain-a-requires c = (omega arith, square_in c.delay_tangent-warp.result (omega arith) (omega arith))
 
-pub nonzero-div-k2 : goal.nonzero-div-k2
-nonzero-div-k2 c = (square_in c.delay-tangent-warp.result (omega arith) (omega arith)).0
+pub nonzero_div-k2 : goal.nonzero_div-k2
+nonzero_div-k2 c = (square_in c.delay_tangent-warp.result (omega arith) (omega arith)).0
 
 pub returns : goal.returns
 returns c =
-    let f1 : SFits w64 c.first-of-b1.result = search rules in
-    let f2 : SFits w64 c.second-of.result = search rules in
+    let f1 : SFits w64 c.first_of-b1.result = search rules in
+    let f2 : SFits w64 c.second_of.result = search rules in
     let f3 : SFits w32 c.rounded.result = search rules in
     let f4 : SFits w32 c.rounded-2.result = search rules in
     let h1 = simp to_z-of_z at c.rounded.ensures.value in
-    let h2 = simp to_z-of_z at c.second-of.ensures.value in
+    let h2 = simp to_z-of_z at c.second_of.ensures.value in
     let h3 = simp to_z-of_z at c.rounded-2.ensures.value in
     let t1 = to_z-of_z w32 c.rounded.result f3 in
     let t2 = to_z-of_z w32 c.rounded-2.result f4 in
     let t3 : to_z w32 ((c.gain-a.result + 128) / 256) ≡ pos ((c.gain-a.result + 128) / 2 ^ 8) = omega (arith, ints) in
-    let n1 : nat_abs (to_z w64 (of_z w64 c.first-of-b1.result)) ≤ 2 ^ 57 = omega (arith, ints) in
+    let n1 : nat_abs (to_z w64 (of_z w64 c.first_of-b1.result)) ≤ 2 ^ 57 = omega (arith, ints) in
     record {
       value =
-          parameters_by c.args.delay c.delay-tangent-warp.result c.gain-a.result c.first-of-b1.result c.second-of.result
+          parameters_by c.args.delay c.delay_tangent-warp.result c.gain-a.result c.first_of-b1.result c.second_of.result
           c.rounded.result c.rounded-2.result _ _ _
-          c.delay-tangent-warp.ensures.value c.gain-a.ensures.value c.first-of-b1.ensures.value h1 h2 h3 t1 t2 t3;
+          c.delay_tangent-warp.ensures.value c.gain-a.ensures.value c.first_of-b1.ensures.value h1 h2 h3 t1 t2 t3;
       range =
           in_range_by c.gain-a.result c.rounded.result c.rounded-2.result _ _ _ c.gain-a.ensures.small
           (c.rounded.ensures.first n1) c.rounded-2.ensures.second t1 t2 t3;
       balance =
-          balanced_by c.gain-a.result c.first-of-b1.result c.second-of.result c.rounded.result c.rounded-2.result _ _ _ h1 h2 h3 t1 t2 t3;
+          balanced_by c.gain-a.result c.first_of-b1.result c.second_of.result c.rounded.result c.rounded-2.result _ _ _ h1 h2 h3 t1 t2 t3;
     }

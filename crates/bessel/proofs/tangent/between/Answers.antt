@@ -5,11 +5,11 @@ use Rattle.bessel.proofs.tangent.between.Goals as goal
 risen : (s d n : ℕ) → s ≤ 2 ^ 16 → d ≤ n → s * 2 ^ 8 * d ≤ 2 ^ 24 * n
 risen s d n p q = let h : s * 2 ^ 8 ≤ 2 ^ 24 = omega arith in mul-le-mul h q
 
-pub overflow-mul-result-3 : goal.overflow-mul-result-3
-overflow-mul-result-3 c = omega (arith, risen c.args.slope c.args.d (2 ^ 38) (omega arith) (omega arith))
+pub overflow_mul-result-3 : goal.overflow_mul-result-3
+overflow_mul-result-3 c = omega (arith, risen c.args.slope c.args.d (2 ^ 38) (omega arith) (omega arith))
 
-pub overflow-add-result : goal.overflow-add-result
-overflow-add-result c = omega (arith, risen c.args.slope c.args.d (2 ^ 38) (omega arith) (omega arith))
+pub overflow_add-result : goal.overflow_add-result
+overflow_add-result c = omega (arith, risen c.args.slope c.args.d (2 ^ 38) (omega arith) (omega arith))
 
 pub returns : goal.returns
 returns c =

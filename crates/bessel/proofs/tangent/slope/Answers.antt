@@ -3,5 +3,5 @@ use Rattle.std.proofs.Common.{arith, rules}
 use Rattle.bessel.proofs.Tangents.{tan_rises}
 use Rattle.bessel.proofs.tangent.slope.Goals as goal
 
-pub overflow-sub-result : goal.overflow-sub-result
-overflow-sub-result c = omega (arith, tan_rises c.args.i (search rules))
+pub overflow_sub-result : goal.overflow_sub-result
+overflow_sub-result c = omega (arith, tan_rises c.args.i (search rules))

@@ -6,7 +6,7 @@ use Rattle.outlook.specs.EntriesLemmas.{lawful_all, bytes_push}
 use Rattle.outlook.proofs.making.entries_of.Goals as goal
 
 pub invariant_of-push_reserved : goal.invariant_of-push_reserved
-invariant_of-push_reserved c = (All-get_or Lawful c.args.bytes.now c.loop-byte.byte-index 0 c.loop-byte-test.true (lawful_all c.args.bytes.now c.requires), tt)
+invariant_of-push_reserved c = record { lawful = All-get_or Lawful c.args.bytes.now c.loop-byte.byte-index 0 c.loop-byte-test.true (lawful_all c.args.bytes.now c.requires) }
 
 pub loop-byte-preserved : goal.loop-byte-preserved
 loop-byte-preserved c = (

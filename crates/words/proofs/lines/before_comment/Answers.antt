@@ -3,7 +3,7 @@ use Rattle.words.proofs.Parting.{front_of}
 use Rattle.words.proofs.lines.before_comment.Goals as goal
 
 pub returns-in-Some : goal.returns-in-Some
-returns-in-Some c = search (rules, front_of c.args.line.now c.split-once.result c.split-once.ensures.cases)
+returns-in-Some c = search (rules, front_of c.args.line.now c.split_once.result c.split_once.ensures.cases)
 
 pub returns-in-None : goal.returns-in-None
-returns-in-None c = search (rules, front_of c.args.line.now c.split-once.result c.split-once.ensures.cases)
+returns-in-None c = search (rules, front_of c.args.line.now c.split_once.result c.split_once.ensures.cases)

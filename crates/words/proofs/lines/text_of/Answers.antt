@@ -5,5 +5,5 @@ use Rattle.words.proofs.lines.text_of.Goals as goal
 
 pub unreachable-requires : goal.unreachable-requires
 unreachable-requires c =
-    (simp sub-zero at c.in-Err-from-utf8.ensures.cases.0)
-    (front_utf8 c.args.bytes.now c.valid-up-to.result c.line-start.result (search rules) c.line-start.ensures)
+    (simp sub-zero at c.in-Err-from_utf8.ensures.cases.0)
+    (front_utf8 c.args.bytes.now c.valid_up_to.result c.line_start.result (search rules) c.line_start.ensures)

@@ -28,8 +28,8 @@ returns c =
     let f9 : SFits w64 c.inputs.result = search rules in
     let f10 : SFits w64 c.weighed-sum.result = search rules in
     let f11 : SFits w64 (shr_z c.weighed-sum.result 16777216) = search rules in
-    let f12 : SFits w32 c.low-bits.result = search rules in
-    let h = simp to_z-of_z at c.low-bits.ensures in
+    let f12 : SFits w32 c.low_bits.result = search rules in
+    let h = simp to_z-of_z at c.low_bits.ensures in
     let g = simp to_z-of_z at c.weighed-sum.ensures in
     let i = simp to_z-of_z at c.inputs.ensures in
-    to_z-of_z w32 c.low-bits.result f12 ∙ joined c.args.self.now c.args.x c.inputs.result c.weighed-sum.result c.low-bits.result i g h
+    to_z-of_z w32 c.low_bits.result f12 ∙ joined c.args.self.now c.args.x c.inputs.result c.weighed-sum.result c.low_bits.result i g h

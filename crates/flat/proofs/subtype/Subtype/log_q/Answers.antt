@@ -6,5 +6,5 @@ use Rattle.flat.proofs.subtype.Subtype.log_q.Goals as goal
 pub returns : goal.returns
 unfolding log_q_of
 returns c =
-    let e : _ ≡ log_q_of c.args.self c.args.log-base-q = search rules in
-    record { value = e; near = λ h. subst (λ (z : ℤ). Near 16 z) (sym e) (log_q_near c.args.self c.args.log-base-q h) }
+    let e : _ ≡ log_q_of c.args.self c.args.log_base_q = search rules in
+    record { value = e; near = λ h. subst (λ (z : ℤ). Near 16 z) (sym e) (log_q_near c.args.self c.args.log_base_q h) }

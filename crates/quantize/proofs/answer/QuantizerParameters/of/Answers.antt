@@ -5,14 +5,14 @@ use Rattle.quantize.specs.Indexes.{luma_index}
 use Rattle.quantize.proofs.Reaching.{whole, whole_lawful}
 use Rattle.quantize.proofs.answer.QuantizerParameters.of.Goals as goal
 
-pub returns-then-is-monochrome : goal.returns-then-is-monochrome
-returns-then-is-monochrome c =
-    let e = whole c.args.log-base-q c.args.log-target-q c.args.depth c.args.sampling c.args.is-intra c.args.log-isqrt-mean-scale _ (search rules) (search rules) (grind (arith, to_z-of_z)) (grind (arith, to_z-of_z)) (grind (arith, to_z-of_z)) in
-    let most : luma_index (luma_log c.args.log-target-q c.args.depth c.args.sampling c.args.is-intra) c.args.depth c.args.log-isqrt-mean-scale ≤ 255 = grind (arith, to_z-of_z) in
+pub returns-then-is_monochrome : goal.returns-then-is_monochrome
+returns-then-is_monochrome c =
+    let e = whole c.args.log_base_q c.args.log_target_q c.args.depth c.args.sampling c.args.is_intra c.args.log_isqrt_mean_scale _ (search rules) (search rules) (grind (arith, to_z-of_z)) (grind (arith, to_z-of_z)) (grind (arith, to_z-of_z)) in
+    let most : luma_index (luma_log c.args.log_target_q c.args.depth c.args.sampling c.args.is_intra) c.args.depth c.args.log_isqrt_mean_scale ≤ 255 = grind (arith, to_z-of_z) in
     record { value = e; lawful = whole_lawful _ _ _ _ _ _ _ most e }
 
 pub returns : goal.returns
 returns c =
-    let e = whole c.args.log-base-q c.args.log-target-q c.args.depth c.args.sampling c.args.is-intra c.args.log-isqrt-mean-scale _ (search rules) (search rules) (grind (arith, to_z-of_z)) (grind (arith, to_z-of_z)) (grind (arith, to_z-of_z)) in
-    let most : luma_index (luma_log c.args.log-target-q c.args.depth c.args.sampling c.args.is-intra) c.args.depth c.args.log-isqrt-mean-scale ≤ 255 = grind (arith, to_z-of_z) in
+    let e = whole c.args.log_base_q c.args.log_target_q c.args.depth c.args.sampling c.args.is_intra c.args.log_isqrt_mean_scale _ (search rules) (search rules) (grind (arith, to_z-of_z)) (grind (arith, to_z-of_z)) (grind (arith, to_z-of_z)) in
+    let most : luma_index (luma_log c.args.log_target_q c.args.depth c.args.sampling c.args.is_intra) c.args.depth c.args.log_isqrt_mean_scale ≤ 255 = grind (arith, to_z-of_z) in
     record { value = e; lawful = whole_lawful _ _ _ _ _ _ _ most e }
