@@ -7,8 +7,8 @@ use Rattle.queries.proofs.lines.queries.Goals as goal
 
 pub returns : goal.returns
 returns c =
-    let text = c.text-of-whole.result.0.now in
+    let text = c.text_of-whole.result.0.now in
     let lines = c.in-Ok.ensures in
-    let same = ap texts c.as-slice.ensures.value ∙ lines in
+    let same = ap texts c.as_slice.ensures.value ∙ lines in
     let n : c.len.result ≡ length (lines_in text) = c.len.ensures ∙ c.in-Ok.lines.ok.0 ∙ sym (length_texts (vec_items c.in-Ok.lines)) ∙ ap length lines in
-    record { accepted = tt; refused = (text, c.text-of-whole.result.1, c.text-of-whole.ensures, (vec_items c.in-ok-queries.queries, c.if-whole.false, n, ap all_asked (sym same) ∙ c.in-ok-queries.ensures)) }
+    record { accepted = tt; refused = (text, c.text_of-whole.result.1, c.text_of-whole.ensures, (vec_items c.in_ok-queries.queries, c.if-whole.false, n, ap all_asked (sym same) ∙ c.in_ok-queries.ensures)) }

@@ -19,10 +19,10 @@ returns-in-Err c =
 pub loop-i-preserved : goal.loop-i-preserved
 loop-i-preserved c =
     let l : c.loop-i.i < length (texts c.args.lines.now) = search (rules, length_texts c.args.lines.now) in
-    let asks = c.in-default.ensures.0 in
-    all_more (texts c.args.lines.now) c.loop-i.i (vec_items c.loop-i.queries) asks (vec_items c.read-line.new.queries) l c.loop-i.invariant
-    (subst (λ (t : List ℕ). line_asks t ≡ Some asks) (sym (texts_at c.args.lines.now c.loop-i.i _ c.loop-i-test.true)) c.in-default.ensures.1)
-    c.in-default.ensures.2
+    let asks = c.in_default.ensures.0 in
+    all_more (texts c.args.lines.now) c.loop-i.i (vec_items c.loop-i.queries) asks (vec_items c.read_line.new.queries) l c.loop-i.invariant
+    (subst (λ (t : List ℕ). line_asks t ≡ Some asks) (sym (texts_at c.args.lines.now c.loop-i.i _ c.loop-i-test.true)) c.in_default.ensures.1)
+    c.in_default.ensures.2
 
 pub returns : goal.returns
 returns c =
