@@ -7,42 +7,42 @@ use Rattle.model.proofs.trim.soft_trim.Goals as goal
 
 pub returns-then-soft-le0 : goal.returns-then-soft-le0
 returns-then-soft-le0 c =
-    to_z-of_z w64 c.args.log-q c.ranges.log-q
-    ∙ soft_none c.args.exp c.args.pixels c.args.log-q c.args.soft c.args.margin (omega (arith, ints))
+    to_z-of_z w64 c.args.log_q c.ranges.log_q
+    ∙ soft_none c.args.exp c.args.pixels c.args.log_q c.args.soft c.args.margin (omega (arith, ints))
 
-pub returns-then-saturating-sub-log-soft : goal.returns-then-saturating-sub-log-soft
-returns-then-saturating-sub-log-soft c =
-    let f1 : SFits w64 c.blog64-log-soft.result = search rules in
+pub returns-then-saturating_sub-log_soft : goal.returns-then-saturating_sub-log_soft
+returns-then-saturating_sub-log_soft c =
+    let f1 : SFits w64 c.blog64-log_soft.result = search rules in
     let f2 : SFits w64 c.powered-power.result = search rules in
-    let f3 : SFits w64 c.saturating-sub.result = search rules in
-    let f4 : SFits w64 c.args.log-q = c.ranges.log-q in
+    let f3 : SFits w64 c.saturating_sub.result = search rules in
+    let f4 : SFits w64 c.args.log_q = c.ranges.log_q in
     let f5 : SFits w64 c.args.pixels = c.ranges.pixels in
     let f6 : SFits w64 c.args.soft = c.ranges.soft in
     let e : to_z w64 c.args.exp ≡ pos c.args.exp = omega (arith, ints) in
     let h1 = simp (to_z-of_z, e) at c.powered-power.ensures in
-    let h2 = simp to_z-of_z at c.saturating-sub.ensures in
-    let h3 = simp to_z-of_z at c.blog64-log-soft.ensures.value in
-    to_z-of_z w64 c.args.log-q c.ranges.log-q
-    ∙ soft_still c.args.exp c.args.pixels c.args.log-q c.args.soft c.args.margin c.powered-power.result c.saturating-sub.result c.blog64-log-soft.result (omega (arith, ints)) h1 h2 h3 (omega (arith, ints))
+    let h2 = simp to_z-of_z at c.saturating_sub.ensures in
+    let h3 = simp to_z-of_z at c.blog64-log_soft.ensures.value in
+    to_z-of_z w64 c.args.log_q c.ranges.log_q
+    ∙ soft_still c.args.exp c.args.pixels c.args.log_q c.args.soft c.args.margin c.powered-power.result c.saturating_sub.result c.blog64-log_soft.result (omega (arith, ints)) h1 h2 h3 (omega (arith, ints))
 
 pub returns : goal.returns
 returns c =
-    let f1 : SFits w64 c.blog64-log-soft.result = search rules in
+    let f1 : SFits w64 c.blog64-log_soft.result = search rules in
     let f2 : SFits w64 c.powered-power.result = search rules in
-    let f3 : SFits w64 c.saturating-sub.result = search rules in
-    let f4 : SFits w64 c.args.log-q = c.ranges.log-q in
+    let f3 : SFits w64 c.saturating_sub.result = search rules in
+    let f4 : SFits w64 c.args.log_q = c.ranges.log_q in
     let f5 : SFits w64 c.args.pixels = c.ranges.pixels in
     let f6 : SFits w64 c.args.soft = c.ranges.soft in
     let f7 : SFits w64 c.args.margin = c.ranges.margin in
-    let f8 : SFits w64 c.share-of.result = search rules in
+    let f8 : SFits w64 c.share_of.result = search rules in
     let f9 : SFits w64 c.eased.result = search rules in
     let f10 : SFits w64 c.unpowered.result = search rules in
     let e : to_z w64 c.args.exp ≡ pos c.args.exp = omega (arith, ints) in
     let h1 = simp (to_z-of_z, e) at c.powered-power.ensures in
-    let h2 = simp to_z-of_z at c.saturating-sub.ensures in
-    let h3 = simp to_z-of_z at c.blog64-log-soft.ensures.value in
-    let h4 = simp to_z-of_z at c.share-of.ensures in
+    let h2 = simp to_z-of_z at c.saturating_sub.ensures in
+    let h3 = simp to_z-of_z at c.blog64-log_soft.ensures.value in
+    let h4 = simp to_z-of_z at c.share_of.ensures in
     let h5 = simp to_z-of_z at c.eased.ensures in
     let h6 = simp to_z-of_z at c.unpowered.ensures in
     to_z-of_z w64 c.unpowered.result f10
-    ∙ soft_moved c.args.exp c.args.pixels c.args.log-q c.args.soft c.args.margin c.powered-power.result c.saturating-sub.result c.blog64-log-soft.result c.share-of.result c.eased.result c.unpowered.result (omega (arith, ints)) h1 h2 h3 (omega (arith, ints)) h4 h5 h6
+    ∙ soft_moved c.args.exp c.args.pixels c.args.log_q c.args.soft c.args.margin c.powered-power.result c.saturating_sub.result c.blog64-log_soft.result c.share_of.result c.eased.result c.unpowered.result (omega (arith, ints)) h1 h2 h3 (omega (arith, ints)) h4 h5 h6

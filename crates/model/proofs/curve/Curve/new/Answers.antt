@@ -9,7 +9,7 @@ use Rattle.model.proofs.curve.Curve.new.Goals as goal
 pub returns : goal.returns
 returns c =
     record {
-      made = made_so c.args.settings.now c.in-ok-accept.field-0 c.of.result c.in-ok-accept.ensures.value c.of.ensures.value;
+      made = made_so c.args.settings.now c.in_ok-accept.field-0 c.of.result c.in_ok-accept.ensures.value c.of.ensures.value;
       bounded = (
         c.of.ensures.target,
         λ ls. subst (λ (m : Curve). AllBounded (lessons m ls)) (sym c.of.ensures.value) (bounds_kept c.args.settings.now ls),

@@ -8,25 +8,25 @@ use Rattle.model.proofs.filter.Filter.learn.Goals as goal
 pub returns-then-reports-eq0 : goal.returns-then-reports-eq0
 returns-then-reports-eq0 c =
     let f1 : SFits w64 c.power.result = search rules in
-    let f2 : SFits w64 c.scale-of-scale.result = search rules in
-    let f5 : SFits w64 c.args.log-q = c.ranges.log-q in
-    let f6 : SFits w64 c.args.log-npixels = c.ranges.log-npixels in
+    let f2 : SFits w64 c.scale_of-scale.result = search rules in
+    let f5 : SFits w64 c.args.log_q = c.ranges.log_q in
+    let f6 : SFits w64 c.args.log_npixels = c.ranges.log_npixels in
     let h1 = simp to_z-of_z at c.power.ensures in
-    let h2 = simp to_z-of_z at c.scale-of-scale.ensures in
+    let h2 = simp to_z-of_z at c.scale_of-scale.ensures in
     let h3 = simp to_z-of_z at c.begin.ensures in
     let b : (c.args.trial || eqb c.args.reports 0) ≡ true = grind (arith, nat_tests) in
-    next_begun c.args.self.now c.begin.new.self c.args.log-npixels c.args.log-q c.power.result c.scale-of-scale.result c.args.target c.args.bits c.args.reports c.args.inter c.args.trial b h1 h2 h3
+    next_begun c.args.self.now c.begin.new.self c.args.log_npixels c.args.log_q c.power.result c.scale_of-scale.result c.args.target c.args.bits c.args.reports c.args.inter c.args.trial b h1 h2 h3
 
 pub returns-else-reports-eq0 : goal.returns-else-reports-eq0
 returns-else-reports-eq0 c =
     let f1 : SFits w64 c.power.result = search rules in
-    let f2 : SFits w64 c.scale-of-scale.result = search rules in
-    let f3 : SFits w32 c.q57-to-q24.result = search rules in
-    let f5 : SFits w64 c.args.log-q = c.ranges.log-q in
-    let f6 : SFits w64 c.args.log-npixels = c.ranges.log-npixels in
+    let f2 : SFits w64 c.scale_of-scale.result = search rules in
+    let f3 : SFits w32 c.q57_to_q24.result = search rules in
+    let f5 : SFits w64 c.args.log_q = c.ranges.log_q in
+    let f6 : SFits w64 c.args.log_npixels = c.ranges.log_npixels in
     let h1 = simp to_z-of_z at c.power.ensures in
-    let h2 = simp to_z-of_z at c.scale-of-scale.ensures in
-    let h3 = simp to_z-of_z at c.q57-to-q24.ensures in
+    let h2 = simp to_z-of_z at c.scale_of-scale.ensures in
+    let h3 = simp to_z-of_z at c.q57_to_q24.ensures in
     let h5 = simp to_z-of_z at c.follow.ensures in
     let b : (c.args.trial || eqb c.args.reports 0) ≡ false = grind (arith, nat_tests) in
-    next_followed c.args.self.now c.lengthen.new.self c.follow.new.self c.args.log-npixels c.args.log-q c.power.result c.scale-of-scale.result c.q57-to-q24.result c.args.target c.args.bits c.args.reports c.args.inter c.args.trial b h1 h2 h3 c.lengthen.ensures h5
+    next_followed c.args.self.now c.lengthen.new.self c.follow.new.self c.args.log_npixels c.args.log_q c.power.result c.scale_of-scale.result c.q57_to_q24.result c.args.target c.args.bits c.args.reports c.args.inter c.args.trial b h1 h2 h3 c.lengthen.ensures h5
