@@ -5,9 +5,9 @@ use Rattle.replies.proofs.playing.play.Goals as goal
 pub loop-rest-preserved : goal.loop-rest-preserved
 loop-rest-preserved g c =
     let ls = c.loop-rest.rest.now in
-    let b = c.split-at.ensures.front ∙ ap (λ (n : ℕ). take n ls) c.block-length.ensures.value in
-    let d = c.split-at.ensures.back ∙ ap (λ (n : ℕ). drop n ls) c.block-length.ensures.value in
-    played_more (g.R.Runner.answers c.args.runner.now) ls _ _ _ _ _ _ _ b d c.standing-after-standing.ensures c.in-ok-add-replies.ensures c.loop-rest.invariant
+    let b = c.split_at.ensures.front ∙ ap (λ (n : ℕ). take n ls) c.block_length.ensures.value in
+    let d = c.split_at.ensures.back ∙ ap (λ (n : ℕ). drop n ls) c.block_length.ensures.value in
+    played_more (g.R.Runner.answers c.args.runner.now) ls _ _ _ _ _ _ _ b d c.standing_after-standing.ensures c.in_ok-add_replies.ensures c.loop-rest.invariant
 
 pub returns : goal.returns
 returns g c =

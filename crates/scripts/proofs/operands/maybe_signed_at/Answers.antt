@@ -2,9 +2,9 @@ use Rattle.std.proofs.Common.{rules}
 use Rattle.scripts.specs.Said.{maybe}
 use Rattle.scripts.proofs.operands.maybe_signed_at.Goals as goal
 
-pub returns-then-absent-at : goal.returns-then-absent-at
+pub returns-then-absent_at : goal.returns-then-absent_at
 unfolding maybe
-returns-then-absent-at c = search rules
+returns-then-absent_at c = search rules
 
 pub returns-in-Some : goal.returns-in-Some
 unfolding maybe

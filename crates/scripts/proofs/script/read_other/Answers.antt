@@ -8,6 +8,6 @@ returns-in-Err c = other_bad (texts c.args.words.now) (read_of c.args.script.now
 
 pub returns : goal.returns
 returns c =
-    pushed c.push-line.result _ _ _
+    pushed c.push_line.result _ _ _
     (other_good (texts c.args.words.now) (read_of c.args.script.now) c.in-Ok.line c.in-Ok.ensures)
-    c.push-line.ensures
+    c.push_line.ensures

@@ -13,29 +13,29 @@ use Rattle.scripts.proofs.Outlooks.{made_right, refused_right}
 use Rattle.scripts.proofs.Lines.{pushed, stopped, pattern_bad, pattern_good}
 use Rattle.scripts.proofs.script.read_pattern.Goals as goal
 
-pub returns-in-err-bytes : goal.returns-in-err-bytes
-returns-in-err-bytes c =
-    let p = err_from_is_err_and c.from-residual.result c.from-residual.ensures.1 in
-    rw (p.1, p.2) (stopped _ _ _ (pattern_bad (texts c.args.words.now) (read_of c.args.script.now)) c.in-err-bytes.ensures)
+pub returns-in_err-bytes : goal.returns-in_err-bytes
+returns-in_err-bytes c =
+    let p = err_from_is_err_and c.from_residual.result c.from_residual.ensures.1 in
+    rw (p.1, p.2) (stopped _ _ _ (pattern_bad (texts c.args.words.now) (read_of c.args.script.now)) c.in_err-bytes.ensures)
 
 pub returns-in-Ok : goal.returns-in-Ok
 returns-in-Ok c =
     let s = read_of c.args.script.now in
-    let bs = c.as-slice.result.now in
+    let bs = c.as_slice.result.now in
     let es = bytes_of (vec_items c.in-Ok.pattern.items) in
-    let h = c.in-ok-bytes.ensures ∙ ap Some (sym c.as-slice.ensures.value) in
+    let h = c.in_ok-bytes.ensures ∙ ap Some (sym c.as_slice.ensures.value) in
     let m = made_right (pattern_question bs) bs es c.in-Ok.ensures in
     let n : length (map entries_known (vec_items c.args.script.now.outlooks)) ≡ c.len-place.result
     = length-map (vec_items c.args.script.now.outlooks) entries_known ∙ sym c.args.script.now.outlooks.ok.0 ∙ sym c.len-place.ensures in
-    pushed c.push-outlook.result _ _ _
+    pushed c.push_outlook.result _ _ _
     (pattern_good (texts c.args.words.now) s bs es None h m.0 m.1 ∙ ap (λ (k : ℕ). Some (with_entries (line.Pattern (At k)) (repeated es) s)) n)
-    c.push-outlook.ensures
+    c.push_outlook.ensures
 
 pub returns : goal.returns
 returns c =
-    let bs = c.as-slice.result.now in
-    let h = c.in-ok-bytes.ensures ∙ ap Some (sym c.as-slice.ensures.value) in
-    let q = refused_right (pattern_question bs) bs c.in-Err.refusal c.in-ok-n.n c.in-Err.ensures c.in-ok-n.ensures in
-    pushed c.push-line.result _ _ _
-    (pattern_good (texts c.args.words.now) (read_of c.args.script.now) bs bs (Some c.in-ok-n.n) h q refl)
-    c.push-line.ensures
+    let bs = c.as_slice.result.now in
+    let h = c.in_ok-bytes.ensures ∙ ap Some (sym c.as_slice.ensures.value) in
+    let q = refused_right (pattern_question bs) bs c.in-Err.refusal c.in_ok-n-in-Err.n c.in-Err.ensures c.in_ok-n-in-Err.ensures in
+    pushed c.push_line.result _ _ _
+    (pattern_good (texts c.args.words.now) (read_of c.args.script.now) bs bs (Some c.in_ok-n-in-Err.n) h q refl)
+    c.push_line.ensures

@@ -5,8 +5,8 @@ use Rattle.scripts.specs.Read.{Read, words_read, read_of, Told}
 use Rattle.scripts.proofs.Texts.{no_words, some_words}
 use Rattle.scripts.proofs.text.read_line.Goals as goal
 
-pub returns-then-is-empty : goal.returns-then-is-empty
-returns-then-is-empty c =
+pub returns-then-is_empty : goal.returns-then-is_empty
+returns-then-is_empty c =
     let l : length (texts (vec_items c.in-Ok.words)) ≡ 0 = search (rules, length_texts (vec_items c.in-Ok.words)) in
     no_words c.args.line.now (texts (vec_items c.in-Ok.words)) (read_of c.args.script.now) c.in-Ok.ensures l
 
@@ -14,5 +14,5 @@ pub returns : goal.returns
 returns c =
     let s = read_of c.args.script.now in
     let l : 0 < length (texts (vec_items c.in-Ok.words)) = search (rules, length_texts (vec_items c.in-Ok.words)) in
-    let e = ap (λ (ws : List (Bor (List ℕ))). words_read (texts ws) s) c.as-slice.ensures.value ∙ some_words c.args.line.now (texts (vec_items c.in-Ok.words)) s c.in-Ok.ensures l in
-    subst (λ (o : Option Read). MatchResult c.read-words.result (λ _. o ≡ Some (read_of c.read-words.new.script)) (λ f. Told o f)) e c.read-words.ensures
+    let e = ap (λ (ws : List (Bor (List ℕ))). words_read (texts ws) s) c.as_slice.ensures.value ∙ some_words c.args.line.now (texts (vec_items c.in-Ok.words)) s c.in-Ok.ensures l in
+    subst (λ (o : Option Read). MatchResult c.read_words.result (λ _. o ≡ Some (read_of c.read_words.new.script)) (λ f. Told o f)) e c.read_words.ensures

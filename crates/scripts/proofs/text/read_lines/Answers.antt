@@ -25,8 +25,8 @@ returns-in-Err c =
 pub loop-i-preserved : goal.loop-i-preserved
 loop-i-preserved c =
     let l : c.loop-i.i < length (texts c.args.lines.now) = search (rules, length_texts c.args.lines.now) in
-    all_more (texts c.args.lines.now) c.loop-i.i (read_of c.loop-i.script) (read_of c.read-line.new.script) l c.loop-i.invariant
-    (subst (λ (t : List ℕ). line_adds t (read_of c.loop-i.script) ≡ Some (read_of c.read-line.new.script)) (sym (texts_at c.args.lines.now c.loop-i.i _ c.loop-i-test.true)) c.in-default.ensures)
+    all_more (texts c.args.lines.now) c.loop-i.i (read_of c.loop-i.script) (read_of c.read_line.new.script) l c.loop-i.invariant
+    (subst (λ (t : List ℕ). line_adds t (read_of c.loop-i.script) ≡ Some (read_of c.read_line.new.script)) (sym (texts_at c.args.lines.now c.loop-i.i _ c.loop-i-test.true)) c.in_default.ensures)
 
 pub returns : goal.returns
 returns c =

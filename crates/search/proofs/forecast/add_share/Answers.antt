@@ -7,9 +7,9 @@ returns-then-frames-eq0 g c = skipped g.M.BitModel.count c.args.model.now c.args
 
 pub returns : goal.returns
 returns g c =
-    let s1 : SFits w64 c.log-q.result = search rules in
+    let s1 : SFits w64 c.log_q.result = search rules in
     let s2 : SFits w64 c.predict-bits.result = search rules in
-    let s3 : SFits w64 c.saturating-mul.result = search rules in
-    let s4 : SFits w64 c.saturating-add.result = search rules in
-    share_is g.M.BitModel.count c.args.model.now c.args.subtype c.args.frames c.code.result c.args.sum c.args.base c.log-q.result c.predict-bits.result c.saturating-mul.result c.saturating-add.result
-    (omega arith) c.ranges.sum c.ranges.base s1 s2 s3 s4 c.code.ensures.value c.log-q.ensures.value c.predict-bits.ensures c.saturating-mul.ensures c.saturating-add.ensures
+    let s3 : SFits w64 c.saturating_mul.result = search rules in
+    let s4 : SFits w64 c.saturating_add.result = search rules in
+    share_is g.M.BitModel.count c.args.model.now c.args.subtype c.args.frames c.code.result c.args.sum c.args.base c.log_q.result c.predict-bits.result c.saturating_mul.result c.saturating_add.result
+    (omega arith) c.ranges.sum c.ranges.base s1 s2 s3 s4 c.code.ensures.value c.log_q.ensures.value c.predict-bits.ensures c.saturating_mul.ensures c.saturating_add.ensures

@@ -18,7 +18,7 @@ loop-s-smaller-then-bits-total g c =
 pub loop-s-preserved-then-bits-total : goal.loop-s-preserved-then-bits-total
 loop-s-preserved-then-bits-total g c =
     let f : SFits w64 c.loop-s.s.base = search rules in
-    let b = told_at (forecast g.M.BitModel.count c.args.model.now c.args.counts.now.kinds) c.predict-base-bits.result c.loop-s.s.base f c.predict-base-bits.ensures in
+    let b = told_at (forecast g.M.BitModel.count c.args.model.now c.args.counts.now.kinds) c.predict_base-bits.result c.loop-s.s.base f c.predict_base-bits.ensures in
     up_again c.loop-s.s c.up-s.result c.loop-s.invariant (omega (arith, ints)) (omega (arith, ints)) c.up-s.ensures
 
 pub down-s-requires : goal.down-s-requires
@@ -34,13 +34,13 @@ loop-s-smaller g c =
 pub loop-s-preserved : goal.loop-s-preserved
 loop-s-preserved g c =
     let f : SFits w64 c.loop-s.s.base = search rules in
-    let b = told_at (forecast g.M.BitModel.count c.args.model.now c.args.counts.now.kinds) c.predict-base-bits.result c.loop-s.s.base f c.predict-base-bits.ensures in
+    let b = told_at (forecast g.M.BitModel.count c.args.model.now c.args.counts.now.kinds) c.predict_base-bits.result c.loop-s.s.base f c.predict_base-bits.ensures in
     down_again c.loop-s.s c.down-s.result c.loop-s.invariant (omega (arith, ints)) (omega (arith, ints)) c.down-s.ensures
 
 pub returns-else-bits-total-2 : goal.returns-else-bits-total-2
 returns-else-bits-total-2 g c =
     let f : SFits w64 c.loop-s.s.base = search rules in
-    let b = told_at (forecast g.M.BitModel.count c.args.model.now c.args.counts.now.kinds) c.predict-base-bits.result c.loop-s.s.base f c.predict-base-bits.ensures in
+    let b = told_at (forecast g.M.BitModel.count c.args.model.now c.args.counts.now.kinds) c.predict_base-bits.result c.loop-s.s.base f c.predict_base-bits.ensures in
     let h = at_args c.args.total c.args.bottom c.args.top c.ranges.total c.ranges.bottom c.ranges.top c.loop-s.invariant in
     let t = told_from (forecast g.M.BitModel.count c.args.model.now c.args.counts.now.kinds) c.args.total c.args.bottom c.args.top c.requires.low c.requires.high c.requires.order c.loop-s.s.base (c.loop-s.s.tries + 1) f
     (met _ _ _ _ c.loop-s.s.lo c.loop-s.s.hi c.loop-s.s.base c.loop-s.s.tries h (omega (arith, ints)) (omega (arith, ints))) in

@@ -6,6 +6,6 @@ use Rattle.stair.proofs.stair.Stair.new.Goals as goal
 pub returns : goal.returns
 returns c =
     record {
-      made = rw (sym c.if-not-all-descend.ensures) refl;
-      ordered = never_more c.args.rows (sym c.if-not-all-descend.ensures);
+      made = rw (sym c.if-not-all_descend.ensures) refl;
+      ordered = never_more c.args.rows (sym c.if-not-all_descend.ensures);
     }
