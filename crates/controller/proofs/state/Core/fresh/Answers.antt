@@ -6,5 +6,5 @@ use Rattle.controller.proofs.state.Core.fresh.Goals as goal
 pub returns : goal.returns
 returns c =
     let a = c.args.accepted in
-    let e = fresh_is a c.profile-of.result c.reservoir-of.result c.profile-of.ensures c.reservoir-of.ensures in
+    let e = fresh_is a c.profile_of.result c.reservoir_of.result c.profile_of.ensures c.reservoir_of.ensures in
     record { value = e; sound = subst Sound (sym e) (fresh_sound a (omega arith) c.requires.figures c.requires.ordered) }
