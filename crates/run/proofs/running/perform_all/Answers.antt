@@ -10,7 +10,7 @@ loop-call-preserved g c = (
   omega arith,
   omega arith,
   replay_more _ _ _ _ _ _ _ c.loop-call.call-index _ _ _ _ _ _ _ _ _ (omega arith) refl refl
-      c.perform-next.ensures.core c.perform-next.ensures.model c.perform-next.ensures.answers c.loop-call.invariant.2,
+      c.perform_next.ensures.core c.perform_next.ensures.model c.perform_next.ensures.answers c.loop-call.invariant.2,
 )
 
 pub returns : goal.returns
