@@ -12,25 +12,25 @@ pub returns-in-Some : goal.returns-in-Some
 returns-in-Some c =
     let s = c.args.settings.now in
     let cs = c.args.calls.now in
-    let e : stair_at (vec_items c.args.self.now.script.now.stairs) c.args.stair ≡ Some c.in-Some.stair = subst (λ (xs : List Stair). stair_at xs c.args.stair ≡ Some c.in-Some.stair) c.as-slice.ensures.value (sym c.stair-at.ensures ∙ c.in-Some.is) in
-    subst (λ (o : Option Stair). IfOk c.answers-by.result (λ v. vec_items v ≡ model_answers o (vec_items c.args.self.now.script.now.outlooks) s cs)) (sym e)
-    (subst (λ (os : List Known). IfOk c.answers-by.result (λ v. vec_items v ≡ model_answers (Some c.in-Some.stair) os s cs)) c.as-slice-outlooks.ensures.value c.answers-by.ensures)
+    let e : stair_at (vec_items c.args.self.now.script.now.stairs) c.args.stair ≡ Some c.in-Some.stair = subst (λ (xs : List Stair). stair_at xs c.args.stair ≡ Some c.in-Some.stair) c.as_slice.ensures.value (sym c.stair_at.ensures ∙ c.in-Some.is) in
+    subst (λ (o : Option Stair). IfOk c.answers_by.result (λ v. vec_items v ≡ model_answers o (vec_items c.args.self.now.script.now.outlooks) s cs)) (sym e)
+    (subst (λ (os : List Known). IfOk c.answers_by.result (λ v. vec_items v ≡ model_answers (Some c.in-Some.stair) os s cs)) c.as_slice-outlooks.ensures.value c.answers_by.ensures)
 
-pub returns-in-default-new : goal.returns-in-default-new
-returns-in-default-new c =
+pub returns-in_default-new : goal.returns-in_default-new
+returns-in_default-new c =
     let s = c.args.settings.now in
     let cs = c.args.calls.now in
     let os = vec_items c.args.self.now.script.now.outlooks in
-    let e : stair_at (vec_items c.args.self.now.script.now.stairs) c.args.stair ≡ None = subst (λ (xs : List Stair). stair_at xs c.args.stair ≡ None) c.as-slice.ensures.value (sym c.stair-at.ensures ∙ c.in-default.is) in
-    subst (λ (o : Option Stair). vec_items c.new-in-default-new.result ≡ model_answers o os s cs) (sym e)
-    (c.new-in-default-new.ensures.items ∙ sym (no_curve curve_count curve_trimmed curve_next os (curve_of s) cs (accepted s) (curve_of s) c.in-default-new.field-0 c.in-default-new.ensures.made))
+    let e : stair_at (vec_items c.args.self.now.script.now.stairs) c.args.stair ≡ None = subst (λ (xs : List Stair). stair_at xs c.args.stair ≡ None) c.as_slice.ensures.value (sym c.stair_at.ensures ∙ c.in_default.is) in
+    subst (λ (o : Option Stair). vec_items c.new-in_default-new.result ≡ model_answers o os s cs) (sym e)
+    (c.new-in_default-new.ensures.items ∙ sym (no_curve curve_count curve_trimmed curve_next os (curve_of s) cs (accepted s) (curve_of s) c.in_default-new.field-0 c.in_default-new.ensures.made))
 
 pub returns : goal.returns
 returns c =
     let s = c.args.settings.now in
     let cs = c.args.calls.now in
-    let e : stair_at (vec_items c.args.self.now.script.now.stairs) c.args.stair ≡ None = subst (λ (xs : List Stair). stair_at xs c.args.stair ≡ None) c.as-slice.ensures.value (sym c.stair-at.ensures ∙ c.in-default.is) in
+    let e : stair_at (vec_items c.args.self.now.script.now.stairs) c.args.stair ≡ None = subst (λ (xs : List Stair). stair_at xs c.args.stair ≡ None) c.as_slice.ensures.value (sym c.stair_at.ensures ∙ c.in_default.is) in
     let f = is_curve (accepted s) (curve_of s) c.in-Ok.curve c.in-Ok.ensures.made in
-    subst (λ (o : Option Stair). IfOk c.answers-by-2.result (λ v. vec_items v ≡ model_answers o (vec_items c.args.self.now.script.now.outlooks) s cs)) (sym e)
-    (subst (λ (os : List Known). IfOk c.answers-by-2.result (λ v. vec_items v ≡ model_answers None os s cs)) c.as-slice-outlooks.ensures.value
-    (subst (λ (m : Curve). IfOk c.answers-by-2.result (λ v. vec_items v ≡ run_answers curve_count curve_trimmed curve_next c.as-slice-outlooks.result.now m cs s)) f c.answers-by-2.ensures))
+    subst (λ (o : Option Stair). IfOk c.answers_by-2.result (λ v. vec_items v ≡ model_answers o (vec_items c.args.self.now.script.now.outlooks) s cs)) (sym e)
+    (subst (λ (os : List Known). IfOk c.answers_by-2.result (λ v. vec_items v ≡ model_answers None os s cs)) c.as_slice-outlooks.ensures.value
+    (subst (λ (m : Curve). IfOk c.answers_by-2.result (λ v. vec_items v ≡ run_answers curve_count curve_trimmed curve_next c.as_slice-outlooks.result.now m cs s)) f c.answers_by-2.ensures))
