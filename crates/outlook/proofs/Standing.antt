@@ -1,6 +1,6 @@
 -- The laws of the front part and of the counts, by induction over the list.
 use Rattle.std.proofs.Common.{◌≡◌, ℕ, zero, suc, ◌+◌, ◌-◌, ◌%◌, ◌<◌, ◌≤◌, Bool, true, false, cond, eqb, ltb, List, [], ◌∷◌, ◌++◌, length, take, count_by, sym, refl, ap, ◌∙◌, subst, ⊎_elim, arith}
-use Rattle.std.specs.List.{AllByRecursion as All}
+use Rattle.std.specs.List.{AllByRecursion}
 use Rattle.std.proofs.lemmas.List.Sums.{sum_by-cons}
 use Rattle.std.proofs.lemmas.Bool.{cond_both, eqb-true, eqb-false, cases_eq}
 use Rattle.std.proofs.lemmas.Bool.Decides.{nat_tests}
@@ -88,14 +88,14 @@ frames (x ∷ xs) =
     let f = sum_by-cons (λ y. cond (is_frame y) 1 0) x xs in
     omega (arith, frames xs, frame_one (x % 8))
 
-each : (xs : List ℕ) → All Lawful xs → length xs ≡ (tally xs).frames + kind 4 (tally xs)
+each : (xs : List ℕ) → AllByRecursion Lawful xs → length xs ≡ (tally xs).frames + kind 4 (tally xs)
 each [] h = refl
 each (x ∷ xs) h =
     let f = sum_by-cons (λ y. cond (is_frame y) 1 0) x xs in
     let d = sum_by-cons (λ y. cond (is_kind 4 y) 1 0) x xs in
     omega (arith, each xs h.1, each_one x h.0)
 
-shows : (xs : List ℕ) → All Lawful xs → kind 4 (tally xs) ≤ (tally xs).shown
+shows : (xs : List ℕ) → AllByRecursion Lawful xs → kind 4 (tally xs) ≤ (tally xs).shown
 shows [] h = omega arith
 shows (x ∷ xs) h =
     let d = sum_by-cons (λ y. cond (is_kind 4 y) 1 0) x xs in

@@ -3,7 +3,7 @@ use Rattle.std.specs.Prelude.{◌≡◌, ℕ, zero, suc, ◌+◌, ◌-◌, ◌*�
 use Rattle.std.proofs.Common.{sym, ap, ◌∙◌, ⊎_elim, zero-mul, suc-mul, div-add-mod', div-le_self, mod-lt, mod-eq_of_lt, mul-le-mul_right, arith}
 use Rattle.std.proofs.Math.Nat.{mod-eq-sub-mod}
 use Rattle.std.proofs.Math.Seq.{take-append-add}
-use Rattle.std.specs.List.{AllByRecursion as All}
+use Rattle.std.specs.List.{AllByRecursion}
 use Rattle.std.proofs.ByRecursion.{All-append, All-take}
 use Rattle.std.proofs.lemmas.List.{append_assoc, get_or_append_left, get_or-append_right, get_or-take, length-append, length-take, take_all, take-append-le}
 use Rattle.std.proofs.lemmas.Bool.{eq-eqb, ne_eqb, cases_eq, cases_lt}
@@ -99,13 +99,13 @@ tally_repeated xs u w h le under last =
     ∙ ap tally (sym whole))
     (cases_eq w q)
 
-copies_lawful : (n : ℕ) (xs : List ℕ) → All Lawful xs → All Lawful (copies n xs)
+copies_lawful : (n : ℕ) (xs : List ℕ) → AllByRecursion Lawful xs → AllByRecursion Lawful (copies n xs)
 unfolding copies
 copies_lawful zero xs h = tt
 copies_lawful (suc n) xs h = All-append Lawful xs (copies n xs) h (copies_lawful n xs h)
 
 -- the two laws of an outlook
-pub repeated_lawful : (xs : List ℕ) → All Lawful xs → All Lawful (repeated xs)
+pub repeated_lawful : (xs : List ℕ) → AllByRecursion Lawful xs → AllByRecursion Lawful (repeated xs)
 unfolding repeated
 repeated_lawful xs h = All-take Lawful 4096 (copies 4096 xs) (copies_lawful 4096 xs h)
 

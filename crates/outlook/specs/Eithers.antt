@@ -1,7 +1,7 @@
 -- The laws of an outlook of either kind.
 use Rattle.std.specs.Prelude.{◌≤◌, length, vec_items}
 use Rattle.std.proofs.Common.{arith}
-use Rattle.std.specs.List.{AllByRecursion as All}
+use Rattle.std.specs.List.{AllByRecursion}
 use Rattle.outlook.specs.Bytes.{Lawful}
 use Rattle.outlook.specs.Entries.{bytes_of}
 use Rattle.outlook.specs.Either.{entries_known}
@@ -14,6 +14,6 @@ pub known_few : (o : Known) → length (entries_known o) ≤ 4096
 known_few (Listed l) = omega (arith, length_bytes (vec_items l.items), l.items.ok.0, l.few)
 known_few (Repeated p) = repeated_few (bytes_of (vec_items p.items))
 
-pub known_lawful : (o : Known) → All Lawful (entries_known o)
+pub known_lawful : (o : Known) → AllByRecursion Lawful (entries_known o)
 known_lawful (Listed l) = bytes_lawful (vec_items l.items)
 known_lawful (Repeated p) = repeated_lawful (bytes_of (vec_items p.items)) (bytes_lawful (vec_items p.items))

@@ -1,7 +1,7 @@
 -- The bytes of lists of entries: their number, each, and that all are lawful.
 use Rattle.std.specs.Prelude.{◌≡◌, ℕ, ◌+◌, ◌<◌, true, List, [], ◌∷◌, ◌++◌, length, take, slice_index, slice_index_or}
 use Rattle.std.proofs.Common.{sym, ap, ◌∙◌}
-use Rattle.std.specs.List.{AllByRecursion as All}
+use Rattle.std.specs.List.{AllByRecursion}
 use Rattle.std.proofs.lemmas.List.{length-map, get_or-map, map_push, take_more}
 use Rattle.std.proofs.lemmas.Bool.{and_parts}
 use Rattle.outlook.specs.declared.entry.Entry.{Entry}
@@ -21,10 +21,10 @@ pub bytes_push : (es ds : List Entry) (e : Entry) (xs : List ℕ) (i : ℕ) → 
 bytes_push es ds e xs i h so more k =
     ap bytes_of more ∙ map_push (λ (d : Entry). d.byte) es e ∙ ap (λ ys. ys ++ e.byte ∷ []) so ∙ ap (λ y. take i xs ++ y ∷ []) k ∙ sym (take_more xs i 0 h)
 
-pub bytes_lawful : (es : List Entry) → All Lawful (bytes_of es)
+pub bytes_lawful : (es : List Entry) → AllByRecursion Lawful (bytes_of es)
 bytes_lawful [] = tt
 bytes_lawful (e ∷ es) = (e.lawful, bytes_lawful es)
 
-pub lawful_all : (xs : List ℕ) → all_lawful xs ≡ true → All Lawful xs
+pub lawful_all : (xs : List ℕ) → all_lawful xs ≡ true → AllByRecursion Lawful xs
 lawful_all [] e = tt
 lawful_all (x ∷ xs) e = let p = and_parts (is_lawful x) (all_lawful xs) e in (p.0, lawful_all xs p.1)

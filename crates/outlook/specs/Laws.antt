@@ -1,6 +1,6 @@
 -- What counting is, in the words of the subject: laws of the front part and of the counts of any list.
 use Rattle.std.specs.Prelude.{◌≡◌, ℕ, ◌+◌, ◌%◌, ◌<◌, ◌≤◌, true, List, [], ◌∷◌, ◌++◌, length, take, slice_index}
-use Rattle.std.specs.List.{AllByRecursion as All}
+use Rattle.std.specs.List.{AllByRecursion}
 use Rattle.outlook.specs.Bytes.{is_shown, Lawful, front, repeated}
 use Rattle.outlook.specs.Counting.{tally, kind}
 
@@ -24,9 +24,9 @@ pub record TallyStands (xs : List ℕ) : Type 0 where
   -- the frames are those of subtypes 0 to 3
   pub frames : (tally xs).frames ≡ kind 0 (tally xs) + kind 1 (tally xs) + kind 2 (tally xs) + kind 3 (tally xs)
   -- each entry is a frame or a show of an existing frame
-  pub each : All Lawful xs → length xs ≡ (tally xs).frames + kind 4 (tally xs)
+  pub each : AllByRecursion Lawful xs → length xs ≡ (tally xs).frames + kind 4 (tally xs)
   -- each show of an existing frame is shown
-  pub shows : All Lawful xs → kind 4 (tally xs) ≤ (tally xs).shown
+  pub shows : AllByRecursion Lawful xs → kind 4 (tally xs) ≤ (tally xs).shown
 
 -- so for any units and any list
 abbrev pub CountsStand : Type 0

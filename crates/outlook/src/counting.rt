@@ -1,6 +1,6 @@
 // Counting an outlook, for any implementation.
 ghost use Rattle.std.specs.Prelude.{◌≡◌, ℕ, ◌≤◌, List, length};
-ghost use Rattle.std.specs.List.{AllByRecursion as All};
+ghost use Rattle.std.specs.List.{AllByRecursion};
 ghost use Rattle.outlook.specs.Bytes.{Lawful, front};
 ghost use Rattle.outlook.specs.Counting.{tally, Within};
 
@@ -18,5 +18,5 @@ pub trait Outlook {
 
     ghost few: { (o : Self) → length (entries o) ≤ 4096 };
 
-    ghost lawful: { (o : Self) → All Lawful (entries o) };
+    ghost lawful: { (o : Self) → AllByRecursion Lawful (entries o) };
 }

@@ -8,7 +8,7 @@ use lib.Ieee.Scale.{round_same}
 use Rattle.std.proofs.lemmas.Bool.{cases_lt, true≢false}
 use Rattle.std.specs.Int.{int_max, int_min}
 use Rattle.std.proofs.lemmas.Int.{ints, clamps}
-use Rattle.std.specs.List.{AllByRecursion as All}
+use Rattle.std.specs.List.{AllByRecursion}
 use Rattle.planes.specs.declared.sampling.ChromaSampling.{ChromaSampling}
 use Rattle.quantize.specs.declared.answer.Scales.{Scales}
 use Rattle.quantize.specs.declared.answer.Scales.TheVariants.{Mono, Colour}
@@ -77,9 +77,9 @@ plane_exact target q =
     (kept z, kept_le z, nothing_rounded (kept z) (kept_le z))
 
 -- all scales of an answer
-pub scales_exact : (target y mean : ℤ) (s : ChromaSampling) → All Exact (scale_list (scales_of target y mean s))
+pub scales_exact : (target y mean : ℤ) (s : ChromaSampling) → AllByRecursion Exact (scale_list (scales_of target y mean s))
 scales_exact target y mean s = go (monochrome s)
   where
-    go : (b : Bool) → All Exact (scale_list (cond b (Mono (scale_of target y)) (Colour (scale_of target y) (scale_of target (chroma_u y mean s)) (scale_of target (chroma_v y mean s)))))
+    go : (b : Bool) → AllByRecursion Exact (scale_list (cond b (Mono (scale_of target y)) (Colour (scale_of target y) (scale_of target (chroma_u y mean s)) (scale_of target (chroma_v y mean s)))))
     go true = (plane_exact target y, tt)
     go false = (plane_exact target y, (plane_exact target (chroma_u y mean s), (plane_exact target (chroma_v y mean s), tt)))

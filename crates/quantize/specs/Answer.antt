@@ -1,6 +1,6 @@
 -- The quantizer of a frame as a whole, and what holds of each.
 use Rattle.std.specs.Prelude.{◌≡◌, ℕ, ◌≤◌, Bool, true, false, cond, List, [], ◌∷◌, ℤ, slice_index, slice_index_or, Float}
-use Rattle.std.specs.List.{AllByRecursion as All}
+use Rattle.std.specs.List.{AllByRecursion}
 use Rattle.tables.specs.declared.depth.Depth.{Depth}
 use Rattle.planes.specs.declared.sampling.ChromaSampling.{ChromaSampling}
 use Rattle.quantize.specs.declared.answer.Scales.{Scales}
@@ -76,4 +76,4 @@ pub record Lawful (s : ChromaSampling) (r : QuantizerParameters) : Type 0 where
   pub indexes : Reaches s r.dc_qi r.ac_qi
   -- one scale or three, each a whole number of 65,536ths
   pub count : scale_count r.scales ≡ cond (monochrome s) 1 3
-  pub exact : All Exact (scale_list r.scales)
+  pub exact : AllByRecursion Exact (scale_list r.scales)

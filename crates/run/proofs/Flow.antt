@@ -1,18 +1,18 @@
 -- The fullness as it runs through a ledger, and what that says of the sums and of the charges.
 use Rattle.std.proofs.Common.{◌≡◌, zero, suc, ◌⊎◌, List, [], ◌∷◌, ◌++◌, ℤ, pos, ◌+ℤ◌, ◌-ℤ◌, neg_ℤ, ◌≤ℤ◌, refl, inl, inr, ⊎_elim, arith}
 use Rattle.std.specs.Int.{int_min}
-use Rattle.std.specs.List.{ContainsAt as Has}
+use Rattle.std.specs.List.{ContainsAt}
 use Rattle.std.proofs.lemmas.Int.{ints, clamps, by_lt_z}
 use Rattle.run.specs.Ledger.{Entry, credits, charges, capped_sums, sums}
 use Rattle.run.specs.Laws.{Least}
 
-has_here : (x y : ℤ) (ys : List ℤ) → y ≡ x → Has (y ∷ ys) x
+has_here : (x y : ℤ) (ys : List ℤ) → y ≡ x → ContainsAt (y ∷ ys) x
 has_here x y ys e = (0, omega arith, λ d. e)
 
-has_there : (x y : ℤ) (ys : List ℤ) → Has ys x → Has (y ∷ ys) x
+has_there : (x y : ℤ) (ys : List ℤ) → ContainsAt ys x → ContainsAt (y ∷ ys) x
 has_there x y ys h = (suc h.0, omega (arith, h.1), λ d. h.2 d)
 
-has_cases : (x y : ℤ) (ys : List ℤ) → Has (y ∷ ys) x → (y ≡ x) ⊎ Has ys x
+has_cases : (x y : ℤ) (ys : List ℤ) → ContainsAt (y ∷ ys) x → (y ≡ x) ⊎ ContainsAt ys x
 has_cases x y ys (zero, l, a) = inl (a x)
 has_cases x y ys (suc k, l, a) = inr (k, omega arith, λ d. a d)
 
@@ -46,7 +46,7 @@ module _ (limit : ℤ) where
             by_lt_z limit (f -ℤ e.charge +ℤ e.credit)
             (λ l. has_there r all (capped_sums limit (e ∷ es)) (has_here r rest (capped_sums limit es) (omega (arith, ints, clamps))))
             (λ l. has_here r all (capped_sums limit (e ∷ es)) (omega (arith, ints, clamps))))
-            (λ (q : Has (capped_sums limit es) (flow (settle f e) es)).
+            (λ (q : ContainsAt (capped_sums limit es) (flow (settle f e) es)).
             has_there r all (capped_sums limit (e ∷ es)) (has_there r rest (capped_sums limit es) q))
             (has_cases r (settle f e +ℤ credits es -ℤ charges es) (capped_sums limit es) k.reached);
         bound = (omega (arith, ints, clamps), (omega (arith, ints, clamps), k.bound.1));

@@ -1,6 +1,6 @@
 -- Histories: their parts, and what they do to a core.
 use Rattle.std.proofs.Common.{◌≡◌, ℕ, Bool, List, [], ◌∷◌, ◌++◌, map, ℤ, sym, refl, ap, subst, arith}
-use Rattle.std.specs.List.{AllByRecursion as All}
+use Rattle.std.specs.List.{AllByRecursion}
 use Rattle.calls.specs.declared.call.Call.{Call}
 use Rattle.calls.specs.declared.answer.Answer.{Answer}
 use Rattle.controller.specs.declared.state.Core.{Core}
@@ -79,7 +79,7 @@ module _ {M O : Type 0} (count : M → ℕ → ℤ → ℕ) (trimmed : M → ℕ
       (goes_all x (calls_of past))
 
   -- while every accepted report is droppable, the fullness stays
-  above_all : (x : State M) (cs : List Call) → Held x.core → All Droppable (history x cs) → Stays x.core (ledger x.core.reservoir.credit (history x cs))
+  above_all : (x : State M) (cs : List Call) → Held x.core → AllByRecursion Droppable (history x cs) → Stays x.core (ledger x.core.reservoir.credit (history x cs))
   above_all x [] h d = h.fullness
   above_all x (c ∷ cs) h d =
       let s : Core = x.core in
@@ -91,9 +91,9 @@ module _ {M O : Type 0} (count : M → ℕ → ℤ → ℕ) (trimmed : M → ℕ
       (subst (λ (l : ℤ). Above l s.reservoir.credit (after x c).core.reservoir.fullness (ledger s.reservoir.credit (history (after x c) cs))) g.limit
       (subst (λ (k : ℤ). Above (after x c).core.reservoir.limit k (after x c).core.reservoir.fullness (ledger k (history (after x c) cs))) g.credit t)))
 
-  pub above_past : (x : State M) (cs : List Call) (past rest : History) → history x cs ≡ past ++ rest → Held x.core → All Droppable past
+  pub above_past : (x : State M) (cs : List Call) (past rest : History) → history x cs ≡ past ++ rest → Held x.core → AllByRecursion Droppable past
       → Stays x.core (ledger x.core.reservoir.credit past)
   above_past x cs past rest q h d =
       let e = (split x cs past rest q).0 in
       subst (λ (p : History). Stays x.core (ledger x.core.reservoir.credit p)) (sym e)
-      (above_all x (calls_of past) h (subst (λ (p : History). All Droppable p) e d))
+      (above_all x (calls_of past) h (subst (λ (p : History). AllByRecursion Droppable p) e d))

@@ -1,6 +1,6 @@
 -- The laws of a controller, over the history of its calls since the opening.
 use Rattle.std.specs.Prelude.{◌≡◌, ℕ, ◌+◌, ◌%◌, ◌^◌, ◌≤◌, Bool, true, List, [], ◌∷◌, ◌++◌, map, ℤ, ◌+ℤ◌, ◌≤ℤ◌, Option}
-use Rattle.std.specs.List.{ContainsAt as Has, AllByRecursion as All}
+use Rattle.std.specs.List.{ContainsAt, AllByRecursion}
 use Rattle.outlook.specs.declared.counts.Counts.{Counts}
 use Rattle.search.specs.Predict.{forecast}
 use Rattle.search.specs.Hunt.{Hits}
@@ -21,8 +21,8 @@ use Rattle.run.specs.Answers.{State, state_after_all}
 
 -- x is one of the numbers, and no more than any of them
 pub record Least (x : ℤ) (xs : List ℤ) : Type 0 where
-  pub reached : Has xs x
-  pub bound : All (λ y. x ≤ℤ y) xs
+  pub reached : ContainsAt xs x
+  pub bound : AllByRecursion (λ y. x ≤ℤ y) xs
 
 -- wherever a status was told, its fullness is the least of the sums over what came before; r is the reservoir as it opened
 abbrev pub Fullness : Reservoir → History → Type 0
@@ -56,7 +56,7 @@ Droppable (Status, a) = Unit {0}
 abbrev pub Charges : Bool → Reservoir → History → Type 0
 Charges dropping r all =
     dropping ≡ true
-    → (past rest : History) → all ≡ past ++ rest → All Droppable past
+    → (past rest : History) → all ≡ past ++ rest → AllByRecursion Droppable past
     → (before stretch after : List Entry) → ledger r.credit past ≡ before ++ (stretch ++ after)
     → charges stretch ≤ℤ (r.limit +ℤ credits stretch +ℤ r.credit)
 

@@ -1,6 +1,6 @@
 -- The three bit depths, and which table serves which.
 use Rattle.std.specs.Prelude.{ℕ, ◌*◌, ◌^◌, cond, List, [], ◌∷◌, ℤ, pos, Some, None, Option, ◌==◌}
-use Rattle.std.specs.List.{AllByRecursion as All}
+use Rattle.std.specs.List.{AllByRecursion}
 use Rattle.tables.specs.declared.depth.Depth.{Depth}
 use Rattle.tables.specs.declared.depth.Depth.TheVariants.{Eight, Ten, Twelve}
 use Rattle.tables.specs.Tables.{dc8, dc10, dc12, ac8, ac10, ac12}
@@ -38,4 +38,4 @@ tables = dc8 ∷ dc10 ∷ dc12 ∷ ac8 ∷ ac10 ∷ ac12 ∷ []
 
 -- none of the six falls anywhere among its 256 entries
 abbrev pub NeverFalls : Type 0
-NeverFalls = All Table tables
+NeverFalls = AllByRecursion Table tables
