@@ -3,8 +3,8 @@
 mod answer;
 mod fault;
 mod lines;
+mod operands;
 mod query;
-mod reason;
 
 pub use answer::{Answer, answer_to};
 pub use fault::{Fault, Kind, Malformed, Wrong};

@@ -1,13 +1,13 @@
 // What a line asks.
-ghost use Rattle.std.specs.Prelude.{◌≡◌, [], slice_index_or};
+ghost use Rattle.std.specs.Prelude.{◌≡◌};
 ghost use Rattle.std.specs.Result.{result_ok};
-ghost use Rattle.words.specs.Words.{texts, signed, unsigned, mark_of};
+ghost use Rattle.words.specs.Words.{texts};
 ghost use Rattle.queries.specs.Asked.{one_signed, two_bytes, byte_signed, quantizer, asked};
 ghost use Rattle.queries.specs.declared.query.Query.TheVariants.{Blog64, Bexp64, AcQ, DcQ, SelectAcQi, SelectDcQi};
 
 use crate::fault::Malformed;
-use crate::reason::malformed;
-use words::{has_count, i64_of, mark_of, u8_of, word_at};
+use crate::operands::{byte_at, check_count, mark_at, signed_at};
+use words::word_at;
 
 // A question. Depths, samplings and indexes are any bytes here: a bad one is refused by its answer.
 #[derive(Clone, Copy, Debug, PartialEq)]
@@ -46,100 +46,65 @@ pub enum Query {
     },
 }
 
-// The number of a byte at a place. The question's name is at place 0.
-fn byte_at(words: &[&str], place: usize) -> Option<u8>
-    ensures { result ≡ unsigned 8 (slice_index_or (texts words.now) place []) }
+fn blog64<'a>(words: &[&'a str]) -> Result<Query, Malformed<'a>>
+    ensures { result_ok result ≡ one_signed (texts words.now) (λ n. Blog64 n) }
 {
-    u8_of(word_at(words, place))
+    check_count(words, 2, "N")?;
+    Ok(Query::Blog64(signed_at(words, 1)?))
 }
 
-// The signed number at a place.
-fn signed_at(words: &[&str], place: usize) -> Option<i64>
-    ensures { result ≡ signed (slice_index_or (texts words.now) place []) }
+fn bexp64<'a>(words: &[&'a str]) -> Result<Query, Malformed<'a>>
+    ensures { result_ok result ≡ one_signed (texts words.now) (λ x. Bexp64 x) }
 {
-    i64_of(word_at(words, place))
+    check_count(words, 2, "X")?;
+    Ok(Query::Bexp64(signed_at(words, 1)?))
 }
 
-// The mark at a place.
-fn mark_at(words: &[&str], place: usize) -> Option<bool>
-    ensures { result ≡ mark_of (slice_index_or (texts words.now) place []) }
+fn ac_q<'a>(words: &[&'a str]) -> Result<Query, Malformed<'a>>
+    ensures { result_ok result ≡ two_bytes (texts words.now) (λ d i. AcQ d i) }
 {
-    mark_of(word_at(words, place))
-}
-
-fn blog64(words: &[&str]) -> Option<Query>
-    ensures { result ≡ one_signed (texts words.now) (λ n. Blog64 n) }
-{
-    if !has_count(words, 2) {
-        return None;
-    }
-    Some(Query::Blog64(signed_at(words, 1)?))
-}
-
-fn bexp64(words: &[&str]) -> Option<Query>
-    ensures { result ≡ one_signed (texts words.now) (λ x. Bexp64 x) }
-{
-    if !has_count(words, 2) {
-        return None;
-    }
-    Some(Query::Bexp64(signed_at(words, 1)?))
-}
-
-fn ac_q(words: &[&str]) -> Option<Query>
-    ensures { result ≡ two_bytes (texts words.now) (λ d i. AcQ d i) }
-{
-    if !has_count(words, 3) {
-        return None;
-    }
-    Some(Query::AcQ {
+    check_count(words, 3, "DEPTH INDEX")?;
+    Ok(Query::AcQ {
         depth: byte_at(words, 1)?,
         index: byte_at(words, 2)?,
     })
 }
 
-fn dc_q(words: &[&str]) -> Option<Query>
-    ensures { result ≡ two_bytes (texts words.now) (λ d i. DcQ d i) }
+fn dc_q<'a>(words: &[&'a str]) -> Result<Query, Malformed<'a>>
+    ensures { result_ok result ≡ two_bytes (texts words.now) (λ d i. DcQ d i) }
 {
-    if !has_count(words, 3) {
-        return None;
-    }
-    Some(Query::DcQ {
+    check_count(words, 3, "DEPTH INDEX")?;
+    Ok(Query::DcQ {
         depth: byte_at(words, 1)?,
         index: byte_at(words, 2)?,
     })
 }
 
-fn select_ac_qi(words: &[&str]) -> Option<Query>
-    ensures { result ≡ byte_signed (texts words.now) (λ d q. SelectAcQi d q) }
+fn select_ac_qi<'a>(words: &[&'a str]) -> Result<Query, Malformed<'a>>
+    ensures { result_ok result ≡ byte_signed (texts words.now) (λ d q. SelectAcQi d q) }
 {
-    if !has_count(words, 3) {
-        return None;
-    }
-    Some(Query::SelectAcQi {
+    check_count(words, 3, "DEPTH Q")?;
+    Ok(Query::SelectAcQi {
         depth: byte_at(words, 1)?,
         q: signed_at(words, 2)?,
     })
 }
 
-fn select_dc_qi(words: &[&str]) -> Option<Query>
-    ensures { result ≡ byte_signed (texts words.now) (λ d q. SelectDcQi d q) }
+fn select_dc_qi<'a>(words: &[&'a str]) -> Result<Query, Malformed<'a>>
+    ensures { result_ok result ≡ byte_signed (texts words.now) (λ d q. SelectDcQi d q) }
 {
-    if !has_count(words, 3) {
-        return None;
-    }
-    Some(Query::SelectDcQi {
+    check_count(words, 3, "DEPTH Q")?;
+    Ok(Query::SelectDcQi {
         depth: byte_at(words, 1)?,
         q: signed_at(words, 2)?,
     })
 }
 
-fn quantizer(words: &[&str]) -> Option<Query>
-    ensures { result ≡ quantizer (texts words.now) }
+fn quantizer<'a>(words: &[&'a str]) -> Result<Query, Malformed<'a>>
+    ensures { result_ok result ≡ quantizer (texts words.now) }
 {
-    if !has_count(words, 6) {
-        return None;
-    }
-    Some(Query::Quantizer {
+    check_count(words, 6, "LOG_Q DEPTH SAMPLING INTRA MEAN")?;
+    Ok(Query::Quantizer {
         log_q: signed_at(words, 1)?,
         depth: byte_at(words, 2)?,
         sampling: byte_at(words, 3)?,
@@ -148,9 +113,10 @@ fn quantizer(words: &[&str]) -> Option<Query>
     })
 }
 
-// The question that the words of a line ask, if they ask one.
-fn question(words: &[&str]) -> Option<Query>
-    ensures { result ≡ asked (texts words.now) }
+// The question that the words of a line ask, or the first thing that is wrong with them: the name,
+// then the count of operands, then each operand in order.
+pub fn query_of<'a>(words: &[&'a str]) -> Result<Query, Malformed<'a>>
+    ensures { result_ok result ≡ asked (texts words.now) }
 {
     match word_at(words, 0) {
         "blog64" => blog64(words),
@@ -160,17 +126,6 @@ fn question(words: &[&str]) -> Option<Query>
         "select_ac_qi" => select_ac_qi(words),
         "select_dc_qi" => select_dc_qi(words),
         "quantizer" => quantizer(words),
-        _ => None,
-    }
-}
-
-// The question that the words of a line ask, or the first thing that is wrong with them: the name,
-// then the count of operands, then each operand in order.
-pub fn query_of<'a>(words: &[&'a str]) -> Result<Query, Malformed<'a>>
-    ensures { result_ok result ≡ asked (texts words.now) }
-{
-    match question(words) {
-        Some(query) => Ok(query),
-        None => Err(malformed(words)),
+        name => Err(Malformed::Unknown(name)),
     }
 }
