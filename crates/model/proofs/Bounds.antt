@@ -5,11 +5,11 @@ use Rattle.std.proofs.lemmas.Bool.Decides.{nat_tests}
 use Rattle.std.proofs.lemmas.List.{get_or-set_other}
 use Rattle.model.specs.Scales.{begun, lengthens, longer, lengthened, followed, filter_next}
 use Rattle.model.specs.Curves.{blank, guessed, fresh_filters, curve_next, curve_of, taught}
-use Rattle.opening.specs.Opening.{pixels_of, credit_of}
+use Rattle.setup.specs.Opening.{pixels_of, credit_of}
 use Rattle.model.specs.Laws.{filter_at, first_delay, Bounded, AllBounded, Lesson, lessons, BoundsKept}
 use Rattle.model.specs.declared.filter.Filter.{Filter}
 use Rattle.model.specs.declared.curve.Curve.{Curve}
-use Rattle.opening.specs.declared.settings.Settings.{Settings}
+use Rattle.setup.specs.declared.settings.Settings.{Settings}
 use Rattle.model.proofs.Lessons.{learnt, by_ways}
 
 guessed_least : (n low high : ℕ) (few some many : ℕ × ℕ) → 1 ≤ few.0 → 1 ≤ some.0 → 1 ≤ many.0 → 1 ≤ (guessed n low high few some many).0

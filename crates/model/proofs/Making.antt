@@ -3,13 +3,13 @@ use Rattle.std.proofs.Common.{◌≡◌, ℕ, ◌+◌, ◌-◌, ◌*◌, ◌/◌
 use Rattle.std.proofs.lemmas.Int.{ints, to_z-of_z}
 use Rattle.logexp.specs.LogExp.{blog64}
 use Rattle.model.specs.Scales.{fresh_filter}
-use Rattle.opening.specs.Opening.{pixels_of, credit_of, units_of}
+use Rattle.setup.specs.Opening.{pixels_of, credit_of, units_of}
 use Rattle.model.specs.Curves.{guessed, fresh_filters, curve_of, curve_made}
-use Rattle.opening.specs.Questions.{and_then, accepted}
-use Rattle.opening.specs.declared.refusal.Refusal.{Refusal}
-use Rattle.opening.specs.declared.settings.Accepted.{Accepted}
+use Rattle.setup.specs.Questions.{and_then, accepted}
+use Rattle.setup.specs.declared.refusal.Refusal.{Refusal}
+use Rattle.setup.specs.declared.settings.Accepted.{Accepted}
 use Rattle.model.specs.declared.filter.Filter.{Filter}
-use Rattle.opening.specs.declared.settings.Settings.{Settings}
+use Rattle.setup.specs.declared.settings.Settings.{Settings}
 use Rattle.model.specs.declared.curve.Curve.{Curve}
 
 one : (f : Filter) (g h : ℕ × ℕ) (d : ℕ) → g ≡ h → f ≡ fresh_filter g d → f ≡ fresh_filter h d

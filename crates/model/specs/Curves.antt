@@ -2,10 +2,10 @@
 use Rattle.std.specs.Prelude.{ℕ, ◌+◌, ◌-◌, ◌*◌, ◌/◌, ◌^◌, ◌<◌, min, max, Bool, true, false, cond, ◌||◌, List, [], ◌∷◌, ℤ, pos, negsuc, Ok, Result, ◌==◌, int_lt, nat_lt, slice_index_or, slice_set}
 use Rattle.model.specs.Scales.{filter_count, filter_next, fresh_filter}
 use Rattle.logexp.specs.LogExp.{blog64}
-use Rattle.opening.specs.Opening.{pixels_of, credit_of, units_of}
-use Rattle.opening.specs.Questions.{and_then, accepted}
-use Rattle.opening.specs.declared.settings.Settings.{Settings}
-use Rattle.opening.specs.declared.refusal.Refusal.{Refusal}
+use Rattle.setup.specs.Opening.{pixels_of, credit_of, units_of}
+use Rattle.setup.specs.Questions.{and_then, accepted}
+use Rattle.setup.specs.declared.settings.Settings.{Settings}
+use Rattle.setup.specs.declared.refusal.Refusal.{Refusal}
 use Rattle.model.specs.Trims.{filter_trim}
 use Rattle.model.specs.declared.filter.Filter.{Filter}
 use Rattle.bessel.specs.declared.follower.IIRBessel2.{IIRBessel2}

@@ -6,10 +6,10 @@ use Rattle.logexp.specs.LogExp.{blog64, bexp64}
 use Rattle.bessel.specs.Follow.{restarted}
 use Rattle.model.specs.Scales.{q24, power, counted, scale_of}
 use Rattle.model.specs.Curves.{blank, curve_count, curve_next, curve_of}
-use Rattle.opening.specs.Questions.{accepted}
+use Rattle.setup.specs.Questions.{accepted}
 use Rattle.model.specs.declared.filter.Filter.{Filter}
 use Rattle.model.specs.declared.curve.Curve.{Curve}
-use Rattle.opening.specs.declared.settings.Settings.{Settings}
+use Rattle.setup.specs.declared.settings.Settings.{Settings}
 
 -- the filter of a subtype
 abbrev pub filter_at : Curve → ℕ → Filter

@@ -1,7 +1,7 @@
 -- The root of the definitions: Tests, Opening and Questions are those of the settings, then read Scales, Trims and Curves, and Laws.
-pub use Rattle.opening.specs.Tests
-pub use Rattle.opening.specs.Opening
-pub use Rattle.opening.specs.Questions
+pub use Rattle.setup.specs.Tests
+pub use Rattle.setup.specs.Opening
+pub use Rattle.setup.specs.Questions
 pub mod Scales
 pub mod Trims
 pub mod Curves

@@ -3,13 +3,13 @@
 ghost use Rattle.std.specs.Prelude.{◌≡◌, ℕ, ◌+◌, ◌-◌, ◌*◌, ◌^◌, ◌<◌, ◌≤◌, Bool, length, ℤ, pos, ◌+ℤ◌};
 ghost use Rattle.model.specs.Curves.{curve_count, curve_trimmed, curve_next, guessed, fresh_filters, curve_of, curve_made};
 ghost use Rattle.model.specs.Laws.{StaysBounded};
-ghost use Rattle.opening.specs.Opening.{Lawful};
-ghost use Rattle.opening.specs.Questions.{OfAnswer};
+ghost use Rattle.setup.specs.Opening.{Lawful};
+ghost use Rattle.setup.specs.Questions.{OfAnswer};
 ghost use Rattle.std.proofs.Common.{rules};
 
 use crate::bit_model::BitModel;
 use crate::filter::Filter;
-use opening::{Refusal, Settings};
+use setup::{Refusal, Settings};
 
 // The first delay of the follower of subtype 0, and of the others.
 const INTRA_DELAY: u32 = 4;

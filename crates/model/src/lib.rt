@@ -1,5 +1,5 @@
 // Bit models: what a frame of a subtype will use at a log quantizer, and the settings that they are made from.
-// It rests on `logexp`, `opening` and `bessel`.
+// It rests on `logexp`, `setup` and `bessel`.
 #![tactic(auto)]
 
 mod bit_model;

@@ -1,2 +1,2 @@
-// Why settings are refused, passed on from `opening`.
-pub use opening::Refusal;
+// Why settings are refused, passed on from `setup`.
+pub use setup::Refusal;

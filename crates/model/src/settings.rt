@@ -1,2 +1,2 @@
-// The settings that a model is made from, passed on from `opening`.
-pub use opening::{Accepted, Settings};
+// The settings that a model is made from, passed on from `setup`.
+pub use setup::{Accepted, Settings};

@@ -1,2 +1,2 @@
-pub use Rattle.operands.proofs.Reading
+pub use Rattle.numerals.proofs.Reading
 pub mod Parting

@@ -7,7 +7,7 @@ use Rattle.std.proofs.lemmas.List.{length-drop, length-take, get_or-drop, get_or
 use Rattle.std.proofs.lemmas.Str.{IsCharBoundary-start, IsCharBoundary-after_ascii, IsUtf8-nil, IsUtf8-take}
 use Rattle.std.proofs.lemmas.Bool.{both_ways, ltb-true, ltb-false}
 use Rattle.std.proofs.lemmas.Str.Pattern.{IsSplitOnceResult, split_parts}
-use Rattle.operands.specs.Words.{texts}
+use Rattle.numerals.specs.Words.{texts}
 use Rattle.words.specs.declared.lines.Cut.{Cut}
 use Rattle.words.specs.declared.lines.Cut.TheVariants.{Lines, Words}
 use Rattle.words.specs.Lines.{before_comment, ended, ends, keeps, added, parted, LineStart}

@@ -1,2 +1,2 @@
-pub use Rattle.operands.specs.Words
+pub use Rattle.numerals.specs.Words
 pub mod Lines

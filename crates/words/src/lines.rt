@@ -2,7 +2,7 @@
 // a `#` cuts off the rest of the line.
 ghost use Rattle.std.specs.Prelude.{◌≡◌, ◌-◌, ◌≤◌, [], ◌++◌, length, take, drop, IfOk, OnOk};
 ghost use Rattle.std.specs.Str.{IsCharBoundary};
-ghost use Rattle.operands.specs.Words.{texts};
+ghost use Rattle.numerals.specs.Words.{texts};
 ghost use Rattle.words.specs.Lines.{before_comment, ends, keeps, added, parted, words_in, lines_in, LineStart, TextOf};
 
 use std::alloc::{AllocError, Global};

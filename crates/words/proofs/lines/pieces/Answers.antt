@@ -1,5 +1,5 @@
 use Rattle.std.proofs.Common.{vec_items, IsUtf8, subst, rules}
-use Rattle.operands.specs.Words.{texts}
+use Rattle.numerals.specs.Words.{texts}
 use Rattle.words.proofs.Parting.{cut_parts, found_none, found_more, found_cut, found_all}
 use Rattle.words.proofs.lines.pieces.Goals as goal
 use Rattle.words.proofs.lines.pieces.Goals.{then-ends+in_ok-add_piece, else-ends}

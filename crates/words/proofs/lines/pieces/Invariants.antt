@@ -1,5 +1,5 @@
 use Rattle.std.proofs.Common.{vec_items}
-use Rattle.operands.specs.Words.{texts}
+use Rattle.numerals.specs.Words.{texts}
 use Rattle.words.proofs.Parting.{Found, cut_parts}
 use Rattle.words.proofs.lines.pieces.Given as goal
 
