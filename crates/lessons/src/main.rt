@@ -11,6 +11,7 @@ use line::line_of;
 use model::Curve;
 use std::alloc::Global;
 use std::io::{BufWriter, Read, Write};
+use std::process::ExitCode;
 use words::{lines_of, text_of, words_of};
 
 // The answer to one line; none if it has no words.
@@ -52,12 +53,12 @@ fn work(rt: &HostRuntime) -> anyhow::Result<()> {
     }
 }
 
-fn main(rt: HostRuntime) -> anyhow::Result<()> {
+fn main(rt: HostRuntime) -> anyhow::Result<ExitCode> {
     match work(&rt) {
-        Ok(()) => Ok(()),
+        Ok(()) => Ok(ExitCode::SUCCESS),
         Err(e) => {
             eprintln!(rt; "lessons: {e}")?;
-            Err(e)
+            Ok(ExitCode::FAILURE)
         }
     }
 }

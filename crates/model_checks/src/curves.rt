@@ -30,20 +30,30 @@ fn predicts(
     p: i64,
     b0: i64,
     b1: i64,
+    note: &str,
 ) -> Result<(), Fail> {
-    assert_eq!(rt; curve.predict(0, log_q), i);
-    assert_eq!(rt; curve.predict(1, log_q), p);
-    assert_eq!(rt; curve.predict(2, log_q), b0);
-    assert_eq!(rt; curve.predict(3, log_q), b1);
-    assert_eq!(rt; curve.predict(4, log_q), 0);
+    assert_eq!(rt; curve.predict(0, log_q), i, "{note}");
+    assert_eq!(rt; curve.predict(1, log_q), p, "{note}");
+    assert_eq!(rt; curve.predict(2, log_q), b0, "{note}");
+    assert_eq!(rt; curve.predict(3, log_q), b1, "{note}");
+    assert_eq!(rt; curve.predict(4, log_q), 0, "{note}");
     Ok(())
 }
 
 #[test]
 fn fresh(rt: HostRuntime) -> Result<(), Fail> {
     let curve = Curve::new(&usual())?;
-    predicts(&rt, &curve, 4 * ONE, 132_213, 26_729, 10_819, 5_868)?;
-    predicts(&rt, &curve, i64::MAX, 0, 0, 0, 0)?;
+    predicts(
+        &rt,
+        &curve,
+        4 * ONE,
+        132_213,
+        26_729,
+        10_819,
+        5_868,
+        "as it is made",
+    )?;
+    predicts(&rt, &curve, i64::MAX, 0, 0, 0, 0, "at the highest log")?;
     predicts(
         &rt,
         &curve,
@@ -52,6 +62,7 @@ fn fresh(rt: HostRuntime) -> Result<(), Fail> {
         i64::MAX,
         i64::MAX,
         i64::MAX,
+        "at the lowest log",
     )?;
     assert_eq!(rt; curve.predict(255, i64::MIN), 0);
     Ok(())
@@ -68,7 +79,15 @@ fn refused(rt: HostRuntime) {
 }
 
 // A curve at so many pixels to a bit, at a log quantizer of 0.
-fn at(rt: &impl Abort, pixels: u32, i: i64, p: i64, b0: i64, b1: i64) -> Result<(), Fail> {
+fn at(
+    rt: &impl Abort,
+    pixels: u32,
+    i: i64,
+    p: i64,
+    b0: i64,
+    b1: i64,
+    note: &str,
+) -> Result<(), Fail> {
     let curve = Curve::new(&Settings {
         width: pixels,
         height: 1,
@@ -76,29 +95,36 @@ fn at(rt: &impl Abort, pixels: u32, i: i64, p: i64, b0: i64, b1: i64) -> Result<
         numerator: 1,
         ..usual()
     })?;
-    predicts(rt, &curve, 0, i, p, b0, b1)
+    predicts(rt, &curve, 0, i, p, b0, b1, note)
 }
 
 #[test]
 fn thresholds(rt: HostRuntime) -> Result<(), Fail> {
-    at(&rt, 23, 104, 92, 86, 78).note("below 1 pixel to a bit")?;
-    at(&rt, 24, 165, 96, 90, 81).note("1")?;
-    at(&rt, 24 * 2, 330, 504, 408, 504).note("2")?;
-    at(&rt, 24 * 3, 495, 756, 612, 756).note("3")?;
-    at(&rt, 24 * 4, 1_548, 1_008, 816, 1_008).note("4")?;
-    at(&rt, 24 * 91, 35_217, 22_932, 18_564, 22_932).note("91")?;
-    at(&rt, 24 * 92, 35_604, 23_184, 1_104, 23_184).note("92")?;
-    at(&rt, 24 * 125, 48_375, 31_500, 1_500, 31_500).note("125")?;
-    at(&rt, 24 * 126, 48_762, 31_752, 1_512, 378).note("126")?;
-    at(&rt, 24 * 138, 53_406, 34_776, 1_656, 414).note("138")?;
-    at(&rt, 24 * 139, 53_793, 7_923, 1_668, 417).note("139")
+    at(&rt, 23, 104, 92, 86, 78, "below 1 pixel to a bit")?;
+    at(&rt, 24, 165, 96, 90, 81, "1")?;
+    at(&rt, 24 * 2, 330, 504, 408, 504, "2")?;
+    at(&rt, 24 * 3, 495, 756, 612, 756, "3")?;
+    at(&rt, 24 * 4, 1_548, 1_008, 816, 1_008, "4")?;
+    at(&rt, 24 * 91, 35_217, 22_932, 18_564, 22_932, "91")?;
+    at(&rt, 24 * 92, 35_604, 23_184, 1_104, 23_184, "92")?;
+    at(&rt, 24 * 125, 48_375, 31_500, 1_500, 31_500, "125")?;
+    at(&rt, 24 * 126, 48_762, 31_752, 1_512, 378, "126")?;
+    at(&rt, 24 * 138, 53_406, 34_776, 1_656, 414, "138")?;
+    at(&rt, 24 * 139, 53_793, 7_923, 1_668, 417, "139")
 }
 
 #[test]
 fn lessons(rt: HostRuntime) -> Result<(), Fail> {
     let mut curve = Curve::new(&usual())?;
     curve.learn(0, 100_000, 4 * ONE, false, 0);
-    predicts(&rt, &curve, 4 * ONE, 100_000, 26_729, 10_819, 5_868).note(
+    predicts(
+        &rt,
+        &curve,
+        4 * ONE,
+        100_000,
+        26_729,
+        10_819,
+        5_868,
         "what was seen, and the others as they were",
     )?;
     curve.learn(0, 50_000, 4 * ONE, false, 1);
@@ -139,7 +165,16 @@ fn many_lessons(rt: HostRuntime) -> Result<(), Fail> {
             i / 4,
         );
     }
-    predicts(&rt, &curve, 3 * ONE, 3_468, 6_549, 5_212, 3_640)
+    predicts(
+        &rt,
+        &curve,
+        3 * ONE,
+        3_468,
+        6_549,
+        5_212,
+        3_640,
+        "after many lessons",
+    )
 }
 
 #[test]

@@ -14,23 +14,37 @@ fn tangents(rt: HostRuntime) {
     assert_eq!(rt; warp_alpha(17 * (1 << 24) / 36 + 1), 46_817);
 }
 
-fn parameters(rt: &impl Abort, delay: u32, c0: i32, c1: i32, g: i32) -> Result<(), Fail> {
+fn parameters(
+    rt: &impl Abort,
+    delay: u32,
+    c0: i32,
+    c1: i32,
+    g: i32,
+    note: &str,
+) -> Result<(), Fail> {
     let found = iir_bessel2_get_parameters(delay);
-    assert_eq!(rt; found.0, c0);
-    assert_eq!(rt; found.1, c1);
-    assert_eq!(rt; found.2, g);
+    assert_eq!(rt; found.0, c0, "{note}");
+    assert_eq!(rt; found.1, c1, "{note}");
+    assert_eq!(rt; found.2, g, "{note}");
     Ok(())
 }
 
 #[test]
 fn delays(rt: HostRuntime) -> Result<(), Fail> {
-    parameters(&rt, 0, -9_586_981, -2_396_745, 7_190_235).note("as 4")?;
-    parameters(&rt, 3, -9_586_981, -2_396_745, 7_190_235).note("as 4")?;
-    parameters(&rt, 4, -9_586_981, -2_396_745, 7_190_235)?;
-    parameters(&rt, 10, 9_979_394, -2_497_002, 2_323_706)?;
-    parameters(&rt, 11, 11_596_557, -2_953_130, 2_033_447)?;
-    parameters(&rt, 512, 32_943_415, -16_173_563, 1_841)?;
-    parameters(&rt, u32::MAX, 33_510_735, -16_733_531, 3)
+    parameters(&rt, 0, -9_586_981, -2_396_745, 7_190_235, "as 4")?;
+    parameters(&rt, 3, -9_586_981, -2_396_745, 7_190_235, "as 4")?;
+    parameters(&rt, 4, -9_586_981, -2_396_745, 7_190_235, "delay 4")?;
+    parameters(&rt, 10, 9_979_394, -2_497_002, 2_323_706, "delay 10")?;
+    parameters(&rt, 11, 11_596_557, -2_953_130, 2_033_447, "delay 11")?;
+    parameters(&rt, 512, 32_943_415, -16_173_563, 1_841, "delay 512")?;
+    parameters(
+        &rt,
+        u32::MAX,
+        33_510_735,
+        -16_733_531,
+        3,
+        "delay of the most",
+    )
 }
 
 #[test]

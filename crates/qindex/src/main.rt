@@ -2,9 +2,9 @@
 // standard output. What is read and answered is `queries`; here it is only passed on.
 #![tactic(auto)]
 
-use anyhow::anyhow;
 use queries::{Query, answer_to, queries};
 use std::io::{BufWriter, Read, Write};
+use std::process::ExitCode;
 use std::{env, io};
 
 const HELP: &str =
@@ -86,13 +86,13 @@ fn work(rt: &HostRuntime) -> anyhow::Result<bool> {
     }
 }
 
-fn main(rt: HostRuntime) -> anyhow::Result<()> {
+fn main(rt: HostRuntime) -> anyhow::Result<ExitCode> {
     match work(&rt) {
-        Ok(true) => Ok(()),
-        Ok(false) => Err(anyhow!("refused")),
+        Ok(true) => Ok(ExitCode::SUCCESS),
+        Ok(false) => Ok(ExitCode::FAILURE),
         Err(e) => {
             eprintln!(rt; "qindex: {e}")?;
-            Err(e)
+            Ok(ExitCode::FAILURE)
         }
     }
 }

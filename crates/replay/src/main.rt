@@ -9,6 +9,7 @@ use player::Player;
 use replies::{Reply, play};
 use scripts::{Script, script_of};
 use std::io::{BufWriter, Read, Write};
+use std::process::ExitCode;
 use std::{env, io};
 
 const HELP: &str =
@@ -101,13 +102,13 @@ fn work(rt: &HostRuntime) -> anyhow::Result<bool> {
     }
 }
 
-fn main(rt: HostRuntime) -> anyhow::Result<()> {
+fn main(rt: HostRuntime) -> anyhow::Result<ExitCode> {
     match work(&rt) {
-        Ok(true) => Ok(()),
-        Ok(false) => Err(anyhow!("refused")),
+        Ok(true) => Ok(ExitCode::SUCCESS),
+        Ok(false) => Ok(ExitCode::FAILURE),
         Err(e) => {
             eprintln!(rt; "replay: {e}")?;
-            Err(e)
+            Ok(ExitCode::FAILURE)
         }
     }
 }
