@@ -1,10 +1,10 @@
 -- How far the follower's parameters reach.
-use Rattle.std.proofs.Common.{◌≡◌, ℕ, zero, suc, ◌+◌, ◌-◌, ◌*◌, ◌/◌, ◌^◌, ◌<◌, ◌≤◌, min, max, ◌⊎◌, ℤ, pos, negsuc, ◌+ℤ◌, ◌-ℤ◌, ◌*ℤ◌, neg_ℤ, nat_abs, ◌≤ℤ◌, ◌<ℤ◌, sym, refl, ap, ◌∙◌, subst, inl, inr, mul-le-mul_right, div-lt_iff_lt-mul, mul-le-mul, mul-le-mul_left, div-mul-le_self, arith}
+use Rattle.std.proofs.Common.{◌≡◌, ℕ, ◌+◌, ◌*◌, ◌/◌, ◌^◌, ◌<◌, ◌≤◌, max, ℤ, pos, negsuc, ◌+ℤ◌, ◌-ℤ◌, ◌*ℤ◌, nat_abs, refl, ◌∙◌, inl, inr, mul-le-mul_right, div-lt_iff_lt-mul, mul-le-mul_left, div-mul-le_self, arith}
 use lib.Signed.{shr_z}
 use Rattle.std.proofs.lemmas.Int.{ints}
 use Rattle.std.proofs.lemmas.Bool.{cases_lt}
 use Rattle.bessel.specs.Tangent.{warped}
-use Rattle.bessel.specs.Parameters.{gain, first, second, rounded, of_gain, of_tangent, parameters, InRange, Balanced}
+use Rattle.bessel.specs.Parameters.{gain, first, second, rounded, parameters, InRange, Balanced}
 
 pub gain_small : (k2 d : ℕ) → 2 ^ 15 ≤ d → k2 < d * 2 ^ 9 → k2 * 2 ^ 23 / d < 2 ^ 32
 gain_small k2 d p q = (div-lt_iff_lt-mul {k = d} {x = k2 * 2 ^ 23} {y = 2 ^ 32} (omega arith)).1 (omega arith)

@@ -1,10 +1,8 @@
 -- With parameters in range, the sums of a step stay far within 64 bits.
-use Rattle.std.proofs.Common.{◌≡◌, ℕ, ◌+◌, ◌*◌, ◌^◌, ◌<◌, ◌≤◌, ℤ, pos, negsuc, ◌+ℤ◌, ◌*ℤ◌, nat_abs, sym, refl, ap, ◌∙◌, mul-le-mul, arith}
+use Rattle.std.proofs.Common.{◌≡◌, ℕ, ◌+◌, ◌*◌, ◌^◌, ◌<◌, ◌≤◌, ℤ, pos, negsuc, ◌+ℤ◌, ◌*ℤ◌, nat_abs, refl, mul-le-mul, arith}
 use Rattle.std.proofs.lemmas.Int.{ints}
 use Rattle.logexp.specs.Held.{held, ◌⊕◌, ◌⊗◌}
-use Rattle.bessel.specs.Parameters.{InRange}
-use Rattle.bessel.specs.Follow.{inputs, weighed}
-use Rattle.bessel.specs.Laws.{Fits32, NeverHeld}
+use Rattle.bessel.specs.Laws.{NeverHeld}
 
 held_as : (a : ℤ) → nat_abs a < 2 ^ 63 → held a ≡ a
 held_as (pos n) h = omega (arith, ints)

@@ -1,5 +1,5 @@
 -- The rules of the table of tangents by one computed test.
-use Rattle.std.proofs.Common.{◌≡◌, ℕ, zero, suc, ◌+◌, ◌*◌, ◌^◌, ◌<◌, ◌≤◌, min, Bool, true, false, ◌&&◌, ltb, get_or, refl, arith}
+use Rattle.std.proofs.Common.{◌≡◌, ℕ, zero, suc, ◌+◌, ◌^◌, ◌<◌, Bool, true, ◌&&◌, ltb, refl}
 use Rattle.std.proofs.lemmas.Bool.Decides.{Decides-below_and, Decides-ltb}
 use Rattle.bessel.specs.Tangent.{tans, tan}
 

@@ -1,5 +1,5 @@
 -- Worked figures of the tangent and of the parameters.
-use Rattle.std.specs.Prelude.{◌≡◌, ℕ, ◌/◌, ◌^◌, List, [], ◌∷◌, ℤ, pos, negsuc}
+use Rattle.std.specs.Prelude.{◌≡◌, ◌/◌, ◌^◌, [], ◌∷◌, pos, negsuc}
 use Rattle.bessel.specs.Tangent.{tans, tan, warped}
 use Rattle.bessel.specs.Parameters.{parameters}
 

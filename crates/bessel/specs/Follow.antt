@@ -1,5 +1,5 @@
 -- The follower's state and its step.
-use Rattle.std.specs.Prelude.{ℕ, ◌^◌, List, [], ◌∷◌, ℤ, pos, slice_index_or}
+use Rattle.std.specs.Prelude.{ℕ, ◌^◌, [], ◌∷◌, ℤ, pos, slice_index_or}
 use Rattle.std.specs.Int.{int_wrap, w32}
 use Rattle.logexp.specs.Held.{◌⊕◌, ◌⊗◌, ◌≫◌}
 use Rattle.bessel.specs.Parameters.{parameters}

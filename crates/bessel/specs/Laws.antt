@@ -1,5 +1,5 @@
 -- A law of the step: with parameters in range nothing is held.
-use Rattle.std.specs.Prelude.{◌≡◌, ℕ, ◌^◌, ◌≤◌, ℤ, pos, ◌+ℤ◌, ◌*ℤ◌, unsigned_abs}
+use Rattle.std.specs.Prelude.{◌≡◌, ◌^◌, ◌≤◌, ℤ, pos, ◌+ℤ◌, ◌*ℤ◌, unsigned_abs}
 use Rattle.bessel.specs.Parameters.{InRange}
 use Rattle.bessel.specs.Follow.{inputs, weighed}
 

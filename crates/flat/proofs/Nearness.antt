@@ -1,6 +1,6 @@
 -- The logs of table entries lie within 8 doublings of 0. Below the top octave of its table an entry is small
 -- enough by itself; the logs of the 114 entries above it are computed.
-use Rattle.std.proofs.Common.{◌≡◌, ℕ, zero, suc, ◌+◌, ◌-◌, ◌*◌, ◌^◌, ◌<◌, ◌≤◌, Bool, true, false, ◌&&◌, ◌||◌, ltb, ◌⊎◌, List, [], ◌∷◌, get_or, ℤ, pos, negsuc, ◌+ℤ◌, ◌-ℤ◌, neg_ℤ, ◌≤ℤ◌, ◌<ℤ◌, sym, refl, ap, ◌∙◌, subst, inl, inr, arith}
+use Rattle.std.proofs.Common.{◌≡◌, ℕ, zero, suc, ◌+◌, ◌*◌, ◌^◌, ◌<◌, Bool, true, false, ◌&&◌, ◌||◌, ltb, ◌⊎◌, List, [], ◌∷◌, get_or, ℤ, pos, negsuc, ◌+ℤ◌, ◌-ℤ◌, neg_ℤ, ◌≤ℤ◌, ◌<ℤ◌, sym, refl, ap, ◌∙◌, subst, inl, inr, arith}
 use lib.Signed.{lt_z}
 use Rattle.std.proofs.lemmas.Int.{ints}
 use Rattle.std.proofs.lemmas.Bool.{and_parts, ltb-true}
@@ -9,7 +9,7 @@ use Rattle.logexp.specs.LogExp.{blog64, computing}
 use Rattle.tables.specs.Depths.{dc_table, ac_table, doublings, depth_log}
 use Rattle.tables.specs.declared.depth.Depth.{Depth}
 use Rattle.tables.specs.declared.depth.Depth.TheVariants.{Eight, Ten, Twelve}
-use Rattle.flat.specs.Flat.{top_log, log_under, middle, Near}
+use Rattle.flat.specs.Flat.{log_under, middle, Near}
 use Rattle.flat.proofs.Subtypes.{bounded}
 
 abbrev every : (ℕ → Bool) → List ℕ → Bool

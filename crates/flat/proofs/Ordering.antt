@@ -1,12 +1,12 @@
 -- Logs rise from entry to entry of a table, by a test that antt computes.
-use Rattle.std.proofs.Common.{◌≡◌, ℕ, zero, suc, ◌-◌, ◌^◌, ◌<◌, ◌≤◌, Bool, true, false, ◌&&◌, T, List, [], ◌∷◌, length, get_or, ℤ, pos, neg_ℤ, ◌≤ℤ◌, ◌<ℤ◌, refl, le_of_suc-le-suc, not-suc-le-zero, arith}
+use Rattle.std.proofs.Common.{◌≡◌, ℕ, zero, suc, ◌-◌, ◌^◌, ◌<◌, ◌≤◌, Bool, true, ◌&&◌, T, List, [], ◌∷◌, length, get_or, ℤ, pos, neg_ℤ, ◌≤ℤ◌, ◌<ℤ◌, refl, le_of_suc-le-suc, not-suc-le-zero, arith}
 use lib.Ieee.Fits.{and_l, and_r}
 use lib.Signed.{lt_z, le_z}
 use Rattle.std.proofs.lemmas.Int.{ints}
 use Rattle.logexp.specs.LogExp.{computing}
 use Rattle.tables.specs.Depths.{dc_table, ac_table}
 use Rattle.tables.specs.Choice.{index}
-use Rattle.flat.specs.Flat.{entry_log, ac_log, flat_log, flat_base, Near, Ordered, LogsOrdered}
+use Rattle.flat.specs.Flat.{entry_log, ac_log, flat_log, flat_base, Ordered, LogsOrdered}
 use Rattle.tables.specs.declared.depth.Depth.{Depth}
 use Rattle.tables.specs.declared.depth.Depth.TheVariants.{Eight, Ten, Twelve}
 

@@ -1,6 +1,6 @@
 -- The logs of table entries, the subtypes' distances, and the quantizer of an index without rate control.
 use Rattle.std.specs.Prelude.{ℕ, ◌+◌, ◌-◌, ◌*◌, ◌/◌, ◌^◌, ◌<◌, ◌≤◌, Bool, cond, ◌||◌, ℤ, pos, neg_ℤ, ◌≤ℤ◌, ◌<ℤ◌, Some, None, Option, ◌==◌, int_lt, nat_lt, slice_index}
-use Rattle.logexp.specs.Held.{◌⊕◌, ◌⊖◌, ◌⊗◌, ◌≪◌, ◌≫◌}
+use Rattle.logexp.specs.Held.{◌⊕◌, ◌⊖◌, ◌≪◌, ◌≫◌}
 use Rattle.logexp.specs.LogExp.{blog64}
 use Rattle.tables.specs.declared.depth.Depth.{Depth}
 use Rattle.tables.specs.declared.depth.Depth.TheVariants.{Eight, Ten, Twelve}

@@ -1,5 +1,5 @@
 -- Both functions are exact at the powers of two, by a computed test of the 63 powers.
-use Rattle.std.proofs.Common.{◌≡◌, ℕ, ◌+◌, ◌*◌, ◌^◌, ◌<◌, ◌≤◌, Bool, true, ℤ, pos, refl, ap, ◌∙◌, arith}
+use Rattle.std.proofs.Common.{◌≡◌, ◌*◌, ◌^◌, true, ℤ, pos, refl, ap, ◌∙◌, arith}
 use Rattle.logexp.specs.LogExp.{bexp64, blog64, computing}
 use Rattle.logexp.specs.Laws.{ExactPower, ExactLog}
 use Rattle.logexp.proofs.TableRules.{all, all_at, same, same_true}

@@ -1,13 +1,12 @@
 -- 2^62 times the power of two of a fraction is at least 2^62, by the test of `Walks` over the 34 turns and
 -- the 30 turns of the low digits; without the low digits at most 2^31 is wanting.
-use Rattle.std.proofs.Common.{◌≡◌, ℕ, zero, suc, ◌+◌, ◌-◌, ◌*◌, ◌/◌, ◌^◌, ◌<◌, ◌≤◌, Bool, true, false, ◌⊎◌, ℤ, pos, negsuc, ◌+ℤ◌, ◌-ℤ◌, ◌*ℤ◌, neg_ℤ, nat_abs, ◌≤ℤ◌, ◌<ℤ◌, sym, refl, ap, ◌∙◌, subst, inl, inr, arith}
-use lib.Signed.{le_z}
+use Rattle.std.proofs.Common.{◌≡◌, ℕ, zero, suc, ◌+◌, ◌-◌, ◌*◌, ◌/◌, ◌^◌, ◌≤◌, Bool, true, false, ◌⊎◌, ℤ, pos, negsuc, ◌+ℤ◌, ◌-ℤ◌, ◌*ℤ◌, neg_ℤ, nat_abs, ◌≤ℤ◌, ◌<ℤ◌, refl, ap, ◌∙◌, subst, inl, inr, arith}
 use Rattle.std.proofs.lemmas.Int.{ints}
 use Rattle.std.proofs.lemmas.Nat.{shr_le}
 use borrow.Author.Tests.{clash}
 use Rattle.logexp.specs.Cordic.{step, along, shr}
 use Rattle.logexp.specs.Held.{held}
-use Rattle.logexp.specs.LogExp.{exp_turn, exp_turns, tail_turn, tail_turns, tail, computing}
+use Rattle.logexp.specs.LogExp.{exp_turn, exp_turns, tail_turn, tail_turns, computing}
 use Rattle.logexp.specs.Bounds.{ExpIn, TailIn}
 use Rattle.logexp.specs.declared.exp.Exp.{Exp}
 use Rattle.logexp.specs.declared.exp.Tail.{Tail}

@@ -1,7 +1,6 @@
 -- The exponential's turns and its low digits keep to their bounds, and what the calls in them answer.
-use Rattle.std.proofs.Common.{◌≡◌, ℕ, zero, suc, ◌+◌, ◌-◌, ◌*◌, ◌/◌, ◌^◌, ◌<◌, ◌≤◌, min, max, Bool, true, false, cond, eqb, ◌⊎◌, ℤ, pos, negsuc, ◌+ℤ◌, ◌-ℤ◌, ◌*ℤ◌, neg_ℤ, nat_abs, ◌≤ℤ◌, ◌<ℤ◌, sym, refl, ap, ◌∙◌, subst, inl, inr, add-suc, mul-le-mul_right, suc-mul, div-le_self, add-one, arith, shr-shr, w64, SFits, to_z, of_z, le-ltb, lt-ltb, eq-eqb, ne_eqb}
+use Rattle.std.proofs.Common.{◌≡◌, ℕ, zero, suc, ◌+◌, ◌-◌, ◌*◌, ◌/◌, ◌^◌, ◌<◌, ◌≤◌, max, true, false, cond, eqb, ◌⊎◌, ℤ, pos, negsuc, ◌+ℤ◌, ◌-ℤ◌, ◌*ℤ◌, neg_ℤ, nat_abs, ◌≤ℤ◌, ◌<ℤ◌, sym, refl, ap, ◌∙◌, subst, inl, inr, add-suc, mul-le-mul_right, suc-mul, div-le_self, add-one, arith, shr-shr, w64, SFits, to_z, of_z, le-ltb, lt-ltb, eq-eqb, ne_eqb}
 use lib.Pow.{shr_mono}
-use lib.Signed.{shr_z}
 use Rattle.std.proofs.lemmas.Int.{ints, to_z-of_z}
 use Rattle.logexp.specs.Cordic.{steps, atanhs, step, atanh, along, shr}
 use Rattle.logexp.specs.LogExp.{factor, turned, exp_turn, exp_turns, tail_turn, tail_turns, tail}

@@ -3,11 +3,11 @@
 -- turns that are left do, and else asks for either sign of y that the bounds allow; c and d are at most u
 -- and v, and say how much the turns' roundings count. The numbers next to either end, where they decide, are
 -- computed one by one.
-use Rattle.std.proofs.Common.{◌≡◌, ℕ, zero, suc, ◌+◌, ◌-◌, ◌*◌, ◌/◌, ◌^◌, ◌<◌, ◌≤◌, max, Bool, true, ◌&&◌, ltb, leb, ◌⊎◌, ℤ, pos, negsuc, ◌+ℤ◌, ◌-ℤ◌, neg_ℤ, ◌≤ℤ◌, ◌<ℤ◌, sym, refl, ap, ◌∙◌, subst, inl, inr, mul-le-mul_right, arith}
+use Rattle.std.proofs.Common.{◌≡◌, ℕ, zero, suc, ◌+◌, ◌-◌, ◌*◌, ◌/◌, ◌^◌, ◌<◌, ◌≤◌, max, Bool, true, ◌&&◌, ltb, leb, ℤ, pos, negsuc, ◌+ℤ◌, ◌-ℤ◌, neg_ℤ, ◌≤ℤ◌, ◌<ℤ◌, refl, ap, ◌∙◌, subst, inl, inr, mul-le-mul_right, arith}
 use lib.Signed.{le_z}
 use Rattle.std.proofs.lemmas.Int.{ints}
 use Rattle.std.proofs.lemmas.Bool.{and_parts, leb-true, ltb-true, cases_lt}
-use Rattle.logexp.specs.Cordic.{step, atanh, along}
+use Rattle.logexp.specs.Cordic.{step, atanh}
 use Rattle.logexp.specs.LogExp.{log_turn, log_turns, computing}
 use Rattle.logexp.specs.declared.log.Log.{Log}
 use Rattle.logexp.proofs.TableRules.{all, all_at}

@@ -1,7 +1,7 @@
 -- The logarithm's sum u = x + y and difference v = x - y through a turn: both stay well above 0, a turn
 -- takes one to more and the other to less by the same part, and y is negative exactly if u < v. So bounds of
 -- u / v and of v / u give those after the turn.
-use Rattle.std.proofs.Common.{◌≡◌, ℕ, zero, suc, ◌+◌, ◌-◌, ◌*◌, ◌/◌, ◌^◌, ◌<◌, ◌≤◌, max, true, leb, ◌⊎◌, ℤ, pos, negsuc, ◌+ℤ◌, ◌-ℤ◌, neg_ℤ, nat_abs, ◌≤ℤ◌, ◌<ℤ◌, refl, ap, inl, inr, div-mul-le_self, arith}
+use Rattle.std.proofs.Common.{◌≡◌, ℕ, zero, suc, ◌+◌, ◌-◌, ◌*◌, ◌/◌, ◌^◌, ◌<◌, ◌≤◌, max, true, leb, ℤ, pos, negsuc, ◌+ℤ◌, ◌-ℤ◌, nat_abs, ◌≤ℤ◌, ◌<ℤ◌, refl, ap, inl, inr, div-mul-le_self, arith}
 use native.Mathlib.Nat.{lt-div-mul-add}
 use lib.Pow.{shr_mono}
 use Rattle.std.proofs.lemmas.Int.{ints}

@@ -1,17 +1,16 @@
 -- The logarithm's turns keep to their bounds; the top digit's place; what the calls answer.
-use Rattle.std.proofs.Common.{◌≡◌, ℕ, zero, suc, ◌+◌, ◌-◌, ◌*◌, ◌/◌, ◌%◌, ◌^◌, ◌<◌, ◌≤◌, min, max, Bool, true, false, cond, eqb, ltb, ◌⊎◌, ℤ, pos, negsuc, ◌+ℤ◌, ◌-ℤ◌, ◌*ℤ◌, neg_ℤ, nat_abs, ◌≤ℤ◌, ◌<ℤ◌, sym, refl, ap, ◌∙◌, subst, inl, inr, le_refl, mul-le-mul_right, div-le_self, add-one, arith, pow_mono, shr-shr, w64, SFits, to_z, of_z, le-ltb, lt-ltb, eq-eqb, ne_eqb}
+use Rattle.std.proofs.Common.{◌≡◌, ℕ, zero, suc, ◌+◌, ◌-◌, ◌*◌, ◌/◌, ◌%◌, ◌^◌, ◌<◌, ◌≤◌, cond, ℤ, pos, negsuc, ◌+ℤ◌, ◌-ℤ◌, neg_ℤ, nat_abs, ◌≤ℤ◌, ◌<ℤ◌, sym, refl, ap, ◌∙◌, subst, inl, inr, le_refl, mul-le-mul_right, div-le_self, add-one, arith, pow_mono, shr-shr, w64, SFits, to_z, of_z, le-ltb, lt-ltb, eq-eqb, ne_eqb}
 use Rattle.std.proofs.lemmas.Nat.{shl_whole, shl_below, pow-add, leading_top}
 use Rattle.std.proofs.lemmas.Bool.Decides.{eqb_tells, leb_tells}
 use lib.Count.{count_leading_zeros}
 use lib.Pow.{shr_mono}
-use lib.Signed.{shr_z}
-use Rattle.std.proofs.lemmas.Int.{ints, to_z-of_z}
+use Rattle.std.proofs.lemmas.Int.{ints}
 use Rattle.logexp.specs.Cordic.{steps, atanhs, step, atanh, along, shr}
 use Rattle.logexp.specs.LogExp.{log_turn, log_turns, moved, blog_parts, ipart_of, blog64}
 use Rattle.logexp.specs.Bounds.{x_fall, log_bound, LogIn}
 use Rattle.logexp.specs.declared.log.Log.{Log}
-use Rattle.logexp.proofs.TableRules.{below, step_small, atanh_small}
-use Rattle.logexp.proofs.ExpTurns.{along_of, along_bits, along_pos, along_neg}
+use Rattle.logexp.proofs.TableRules.{below, atanh_small}
+use Rattle.logexp.proofs.ExpTurns.{along_of, along_pos, along_neg}
 
 pub half : (n i : ℕ) → n / 2 ^ (i + 1) ≤ n / 2
 half n i =

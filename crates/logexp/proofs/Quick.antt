@@ -1,10 +1,10 @@
 -- The logarithm's turns on natural numbers, quicker to compute: y and z have 2^63 added, so that neither is
 -- negative, and the steps and constants stand in a list.
-use Rattle.std.proofs.Common.{◌≡◌, ℕ, zero, suc, ◌+◌, ◌-◌, ◌*◌, ◌/◌, ◌%◌, ◌^◌, ◌<◌, ◌≤◌, true, false, ltb, ◌⊎◌, List, [], ◌∷◌, ℤ, pos, negsuc, ◌+ℤ◌, ◌-ℤ◌, neg_ℤ, ◌≤ℤ◌, ◌<ℤ◌, sym, refl, ap, ◌∙◌, subst, inl, inr, arith, le-ltb, lt-ltb}
+use Rattle.std.proofs.Common.{◌≡◌, ℕ, zero, suc, ◌+◌, ◌-◌, ◌*◌, ◌/◌, ◌%◌, ◌^◌, ◌<◌, ◌≤◌, true, false, ltb, List, [], ◌∷◌, ℤ, pos, negsuc, ◌+ℤ◌, ◌≤ℤ◌, ◌<ℤ◌, sym, refl, ap, ◌∙◌, inl, inr, arith, le-ltb, lt-ltb}
 use native.Mathlib.Nat.{add-mul-div_right}
 use Rattle.std.proofs.lemmas.Int.{ints}
 use Rattle.std.proofs.lemmas.Nat.{pow_pos, pow-add, shl-shr, shr_split, mod_below, div_below}
-use Rattle.logexp.specs.Cordic.{step, atanh, along, shr}
+use Rattle.logexp.specs.Cordic.{step, atanh, shr}
 use Rattle.logexp.specs.LogExp.{log_turn, log_turns, computing}
 use Rattle.logexp.specs.Bounds.{LogIn}
 use Rattle.logexp.specs.declared.log.Log.{Log}

@@ -1,6 +1,6 @@
 -- A bound of the ratio of two numbers through a turn: one number grows by its 1/s-th part and the other
 -- shrinks by it, each up to two units. A bound p of the ratio is in units of 2^-68.
-use Rattle.std.proofs.Common.{◌≡◌, ℕ, zero, suc, ◌+◌, ◌-◌, ◌*◌, ◌/◌, ◌^◌, ◌<◌, ◌≤◌, ◌⊎◌, sym, refl, ap, ◌∙◌, inl, inr, mul-le-mul_left, div-mul-le_self, arith}
+use Rattle.std.proofs.Common.{◌≡◌, ℕ, ◌+◌, ◌-◌, ◌*◌, ◌/◌, ◌^◌, ◌<◌, ◌≤◌, ap, inl, inr, mul-le-mul_left, div-mul-le_self, arith}
 use native.Mathlib.Nat.{le_of_mul-le-mul_left, lt-div-mul-add, add-mul-div_right}
 use lib.Pow.{shr_mono}
 use Rattle.std.proofs.lemmas.Nat.{le-div, pow_pos}

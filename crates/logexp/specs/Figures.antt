@@ -1,5 +1,5 @@
 -- Worked figures of both functions.
-use Rattle.std.specs.Prelude.{◌≡◌, ℕ, ◌+◌, ◌*◌, ◌^◌, List, [], ◌∷◌, ℤ, pos, negsuc}
+use Rattle.std.specs.Prelude.{◌≡◌, ◌+◌, ◌*◌, ◌^◌, [], ◌∷◌, pos, negsuc}
 use Rattle.logexp.specs.LogExp.{blog64, bexp64}
 
 -- the logarithms of 0 and of 2^62 + 1, and the powers of two of -1 (in Q57), 0 and 62

@@ -1,6 +1,6 @@
 -- The laws of all numbers below 2^13 from the test of the octave: a number N with its top digit at place i
 -- has the same fraction as n = N * 2^(12 - i), and what the test says of n leaves the rounding of N its half.
-use Rattle.std.proofs.Common.{◌≡◌, ℕ, zero, suc, ◌+◌, ◌-◌, ◌*◌, ◌/◌, ◌^◌, ◌<◌, ◌≤◌, ◌⊎◌, ℤ, pos, negsuc, ◌+ℤ◌, ◌-ℤ◌, ◌*ℤ◌, nat_abs, ◌≤ℤ◌, ◌<ℤ◌, sym, refl, ap, ◌∙◌, subst, inl, inr, mul-le-mul_right, suc-mul, arith, le-ltb}
+use Rattle.std.proofs.Common.{◌≡◌, ℕ, zero, suc, ◌+◌, ◌-◌, ◌*◌, ◌/◌, ◌^◌, ◌<◌, ◌≤◌, ℤ, pos, negsuc, ◌+ℤ◌, ◌-ℤ◌, ◌*ℤ◌, nat_abs, ◌≤ℤ◌, ◌<ℤ◌, sym, refl, ap, ◌∙◌, subst, inl, inr, mul-le-mul_right, suc-mul, arith, le-ltb}
 use Rattle.std.proofs.lemmas.Int.{ints}
 use Rattle.std.proofs.lemmas.Nat.{pow_pos, pow-add, le-div, div_below}
 use Rattle.std.proofs.lemmas.Bool.{cases_lt, cases_eq}
@@ -15,7 +15,7 @@ use Rattle.logexp.proofs.Quick.{quick_z, quick_z_is}
 use Rattle.logexp.proofs.QuickExp.{quick_w, quick_w_is}
 use Rattle.logexp.proofs.ExactPowers.{exact_power, exact_log}
 use Rattle.logexp_laws.specs.Undone.{Undone, Rising}
-use Rattle.logexp_laws.proofs.Octave.{part, power, octave, Good, part_zero, is_good_at, rises_by}
+use Rattle.logexp_laws.proofs.Octave.{part, power, octave, part_zero, is_good_at, rises_by}
 
 fraction_zero : shr ((log_turns (2 ^ 61) 65).z +ℤ pos 8) 4 ≡ pos 0
 unfolding computing

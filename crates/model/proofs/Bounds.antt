@@ -1,12 +1,12 @@
 -- The filters' bounds, over whole runs of lessons.
-use Rattle.std.proofs.Common.{◌≡◌, ℕ, zero, suc, ◌+◌, ◌*◌, ◌/◌, ◌^◌, ◌<◌, ◌≤◌, max, Bool, true, false, cond, ◌&&◌, ◌||◌, eqb, ltb, ◌⊎◌, List, [], ◌∷◌, get_or, set, ℤ, sym, refl, ap, ◌∙◌, subst, inl, inr, arith}
+use Rattle.std.proofs.Common.{◌≡◌, ℕ, zero, suc, ◌/◌, ◌<◌, ◌≤◌, Bool, true, false, cond, ◌||◌, eqb, ltb, List, [], ◌∷◌, get_or, set, ℤ, sym, refl, subst, inl, inr, arith}
 use Rattle.std.proofs.lemmas.Bool.{cases_eq}
 use Rattle.std.proofs.lemmas.Bool.Decides.{nat_tests}
 use Rattle.std.proofs.lemmas.List.{get_or-set_other}
-use Rattle.model.specs.Scales.{begun, lengthens, longer, lengthened, followed, filter_next}
+use Rattle.model.specs.Scales.{lengthens, longer, lengthened, filter_next}
 use Rattle.model.specs.Curves.{blank, guessed, fresh_filters, curve_next, curve_of, taught}
 use Rattle.setup.specs.Opening.{pixels_of, credit_of}
-use Rattle.model.specs.Laws.{filter_at, first_delay, Bounded, AllBounded, Lesson, lessons, BoundsKept}
+use Rattle.model.specs.Laws.{filter_at, Bounded, AllBounded, Lesson, lessons, BoundsKept}
 use Rattle.model.specs.declared.filter.Filter.{Filter}
 use Rattle.model.specs.declared.curve.Curve.{Curve}
 use Rattle.setup.specs.declared.settings.Settings.{Settings}

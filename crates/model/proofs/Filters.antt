@@ -1,10 +1,9 @@
 -- What the filter's numbers are, over plain variables.
-use Rattle.std.proofs.Common.{◌≡◌, ℕ, zero, suc, ◌+◌, ◌-◌, ◌*◌, ◌/◌, ◌^◌, ◌<◌, ◌≤◌, min, max, Bool, true, false, cond, ◌||◌, eqb, ℤ, pos, negsuc, ◌+ℤ◌, ◌-ℤ◌, ◌*ℤ◌, neg_ℤ, nat_abs, ◌≤ℤ◌, ◌<ℤ◌, sym, refl, ap, ◌∙◌, subst, arith, w32, w64, SFits, to_z, of_z}
-use lib.Signed.{shr_z}
+use Rattle.std.proofs.Common.{◌≡◌, ℕ, ◌*◌, ◌^◌, Bool, true, false, ◌||◌, eqb, ℤ, pos, negsuc, ◌≤ℤ◌, ap, ◌∙◌, arith, w64, SFits, to_z, of_z}
 use Rattle.std.specs.Int.{int_min}
 use Rattle.std.proofs.lemmas.Int.{ints, to_z-of_z}
 use Rattle.logexp.specs.LogExp.{bexp64, blog64}
-use Rattle.logexp.specs.Held.{◌⊕◌, ◌⊖◌, ◌⊗◌, ◌≫◌}
+use Rattle.logexp.specs.Held.{◌⊕◌, ◌⊖◌}
 use Rattle.model.specs.Scales.{power, counted, filter_bits, filter_count, scale_of, q24, begun, lengthened, followed, filter_next}
 use Rattle.model.specs.declared.filter.Filter.{Filter}
 

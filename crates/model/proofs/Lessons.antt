@@ -1,5 +1,5 @@
 -- What one lesson changes and what it leaves.
-use Rattle.std.proofs.Common.{◌≡◌, ℕ, zero, suc, ◌+◌, ◌*◌, ◌^◌, ◌<◌, ◌≤◌, max, Bool, true, false, cond, ◌||◌, eqb, ltb, List, [], ◌∷◌, length, get_or, set, ℤ, pos, negsuc, ◌+ℤ◌, ◌-ℤ◌, nat_abs, ◌≤ℤ◌, sym, refl, ap, ◌∙◌, subst, arith}
+use Rattle.std.proofs.Common.{◌≡◌, ℕ, ◌*◌, ◌^◌, ◌<◌, Bool, true, false, cond, ◌||◌, eqb, ltb, ℤ, pos, negsuc, ◌+ℤ◌, ◌-ℤ◌, nat_abs, ◌≤ℤ◌, sym, refl, ap, ◌∙◌, arith}
 use Rattle.std.specs.Int.{int_min}
 use Rattle.std.proofs.lemmas.Int.{ints, clamps}
 use Rattle.std.proofs.lemmas.Bool.Decides.{nat_tests}
@@ -8,7 +8,7 @@ use Rattle.logexp.specs.Held.{held, ◌⊕◌, ◌⊖◌}
 use Rattle.logexp.specs.LogExp.{blog64, bexp64}
 use Rattle.bessel.specs.Follow.{restarted}
 use Rattle.model.specs.Scales.{q24, power, counted, scale_of, begun, filter_bits, filter_count, filter_next}
-use Rattle.model.specs.Curves.{blank, curve_count, curve_next, taught}
+use Rattle.model.specs.Curves.{blank, curve_next, taught}
 use Rattle.model.specs.Laws.{filter_at, OthersKept, Begins, ScaleAgrees, Unheld, SeenAgain}
 use Rattle.model.specs.declared.filter.Filter.{Filter}
 use Rattle.model.specs.declared.curve.Curve.{Curve}

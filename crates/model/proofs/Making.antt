@@ -1,6 +1,6 @@
 -- The making of a curve, over plain variables.
-use Rattle.std.proofs.Common.{◌≡◌, ℕ, ◌+◌, ◌-◌, ◌*◌, ◌/◌, ◌^◌, ◌<◌, ◌≤◌, Bool, true, false, cond, eqb, leb, List, [], ◌∷◌, ℤ, pos, Ok, Result, sym, refl, ap, ◌∙◌, arith, w64, SFits, to_z, of_z}
-use Rattle.std.proofs.lemmas.Int.{ints, to_z-of_z}
+use Rattle.std.proofs.Common.{◌≡◌, ℕ, ◌/◌, List, [], ◌∷◌, ℤ, pos, Ok, Result, ap, ◌∙◌, w64, SFits, to_z, of_z}
+use Rattle.std.proofs.lemmas.Int.{to_z-of_z}
 use Rattle.logexp.specs.LogExp.{blog64}
 use Rattle.model.specs.Scales.{fresh_filter}
 use Rattle.setup.specs.Opening.{pixels_of, credit_of, units_of}

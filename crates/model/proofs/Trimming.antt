@@ -1,9 +1,9 @@
 -- The limits' ways, over plain variables.
-use Rattle.std.proofs.Common.{◌≡◌, ℕ, zero, suc, ◌+◌, ◌-◌, ◌*◌, ◌/◌, ◌^◌, ◌<◌, ◌≤◌, min, max, Bool, true, false, cond, ℤ, pos, negsuc, ◌+ℤ◌, ◌-ℤ◌, ◌*ℤ◌, neg_ℤ, nat_abs, ◌≤ℤ◌, ◌<ℤ◌, sym, refl, ap, ◌∙◌, subst, arith, w32, w64, SFits, to_z, of_z}
-use lib.Signed.{lt_z, shr_z, quot_z}
-use Rattle.std.proofs.lemmas.Int.{ints, to_z-of_z}
+use Rattle.std.proofs.Common.{◌≡◌, ℕ, Bool, true, false, ℤ, pos, ◌≤ℤ◌, ◌<ℤ◌, sym, ap, ◌∙◌, arith}
+use lib.Signed.{lt_z}
+use Rattle.std.proofs.lemmas.Int.{ints}
 use Rattle.logexp.specs.LogExp.{blog64}
-use Rattle.logexp.specs.Held.{◌⊕◌, ◌⊖◌, ◌⊗◌, ◌≫◌}
+use Rattle.logexp.specs.Held.{◌⊕◌, ◌⊖◌, ◌≫◌}
 use Rattle.model.specs.Scales.{exponent, powered}
 use Rattle.model.specs.declared.filter.Filter.{Filter}
 use Rattle.model.specs.Trims.{margin_of, soft_of, scaled_pixels, hard_unless, filter_trim, unpowered, eased, share_of, soft_trim, hard_trim}

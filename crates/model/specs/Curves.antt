@@ -1,5 +1,5 @@
 -- The curve model: a filter for each subtype, and the logs that they share.
-use Rattle.std.specs.Prelude.{ℕ, ◌+◌, ◌-◌, ◌*◌, ◌/◌, ◌^◌, ◌<◌, min, max, Bool, true, false, cond, ◌||◌, List, [], ◌∷◌, ℤ, pos, negsuc, Ok, Result, ◌==◌, int_lt, nat_lt, slice_index_or, slice_set}
+use Rattle.std.specs.Prelude.{ℕ, ◌/◌, Bool, cond, ◌||◌, List, [], ◌∷◌, ℤ, pos, Ok, Result, ◌==◌, int_lt, nat_lt, slice_index_or, slice_set}
 use Rattle.model.specs.Scales.{filter_count, filter_next, fresh_filter}
 use Rattle.logexp.specs.LogExp.{blog64}
 use Rattle.setup.specs.Opening.{pixels_of, credit_of, units_of}
@@ -8,7 +8,6 @@ use Rattle.setup.specs.declared.settings.Settings.{Settings}
 use Rattle.setup.specs.declared.refusal.Refusal.{Refusal}
 use Rattle.model.specs.Trims.{filter_trim}
 use Rattle.model.specs.declared.filter.Filter.{Filter}
-use Rattle.bessel.specs.declared.follower.IIRBessel2.{IIRBessel2}
 use Rattle.model.specs.declared.curve.Curve.{Curve}
 
 -- what stands past the table's end

@@ -1,5 +1,5 @@
 -- Laws of the curve model in the subject's words, and a worked opening.
-use Rattle.std.specs.Prelude.{◌≡◌, ℕ, zero, suc, ◌+◌, ◌*◌, ◌^◌, ◌<◌, ◌≤◌, max, Bool, true, false, cond, ◌||◌, List, [], ◌∷◌, length, ℤ, pos, ◌+ℤ◌, ◌-ℤ◌, ◌≤ℤ◌, Some, None, Ok, Option, ◌==◌, ◌≢◌, nat_lt, slice_index_or, unsigned_abs}
+use Rattle.std.specs.Prelude.{◌≡◌, ℕ, zero, suc, ◌+◌, ◌^◌, ◌<◌, ◌≤◌, max, Bool, true, false, cond, ◌||◌, List, [], ◌∷◌, length, ℤ, pos, ◌+ℤ◌, ◌-ℤ◌, ◌≤ℤ◌, Some, None, Ok, ◌==◌, ◌≢◌, nat_lt, slice_index_or, unsigned_abs}
 use Rattle.tables.specs.declared.depth.Depth.TheVariants.{Eight}
 use Rattle.quantize.specs.declared.sampling.ChromaSampling.TheVariants.{Cs420}
 use Rattle.logexp.specs.LogExp.{blog64, bexp64}

@@ -1,5 +1,5 @@
 -- What a subtype's filter predicts and how it learns. Q57 says that 2^57 stands for 1, and Q24 that 2^24 does.
-use Rattle.std.specs.Prelude.{ℕ, ◌+◌, ◌-◌, ◌*◌, ◌^◌, ◌<◌, min, max, Bool, true, false, cond, ◌&&◌, ◌||◌, ℤ, pos, negsuc, ◌+ℤ◌, ◌==◌, nat_lt}
+use Rattle.std.specs.Prelude.{ℕ, ◌+◌, ◌-◌, ◌*◌, ◌^◌, min, max, Bool, cond, ◌&&◌, ◌||◌, ℤ, pos, negsuc, ◌+ℤ◌, ◌==◌, nat_lt}
 use Rattle.std.specs.Int.{int_min}
 use Rattle.logexp.specs.LogExp.{bexp64, blog64}
 use Rattle.logexp.specs.Held.{◌⊕◌, ◌⊖◌, ◌⊗◌, ◌≫◌}

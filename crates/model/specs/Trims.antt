@@ -1,5 +1,5 @@
 -- How a filter trims a log quantizer: the soft limit, then the hard limit. Every sum, difference and product is held.
-use Rattle.std.specs.Prelude.{ℕ, ◌+◌, ◌-◌, ◌*◌, ◌/◌, ◌^◌, ◌<◌, min, max, Bool, true, false, cond, ℤ, pos, negsuc, ◌+ℤ◌, int_div, int_lt}
+use Rattle.std.specs.Prelude.{ℕ, ◌/◌, ◌^◌, Bool, true, false, cond, ℤ, pos, int_div, int_lt}
 use Rattle.std.specs.Int.{int_min}
 use Rattle.logexp.specs.LogExp.{blog64}
 use Rattle.logexp.specs.Held.{◌⊕◌, ◌⊖◌, ◌⊗◌, ◌≫◌}

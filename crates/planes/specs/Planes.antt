@@ -1,5 +1,5 @@
 -- The samplings, and the log quantizers of a frame's three planes.
-use Rattle.std.specs.Prelude.{ℕ, ◌^◌, Bool, true, false, cond, ℤ, pos, neg_ℤ, Some, None, Option, ◌==◌}
+use Rattle.std.specs.Prelude.{ℕ, Bool, true, false, cond, ℤ, pos, neg_ℤ, Some, None, Option, ◌==◌}
 use Rattle.std.specs.Int.{int_max}
 use Rattle.logexp.specs.Held.{◌⊕◌, ◌⊖◌, ◌⊗◌, ◌≫◌}
 use Rattle.tables.specs.declared.depth.Depth.{Depth}

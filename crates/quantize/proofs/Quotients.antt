@@ -1,6 +1,6 @@
 -- n / 65,536 as a float is exact for an n up to 2^53.
-use Rattle.std.proofs.Common.{◌≡◌, ℕ, ◌+◌, ◌-◌, ◌*◌, ◌^◌, ◌<◌, ◌≤◌, Bool, true, false, cond, ◌⊎◌, ℤ, pos, negsuc, sym, refl, ap, ◌∙◌, subst, inl, inr, lt_of_lt_of_le, mul_assoc, mul_comm, mul-lt-mul_of_pos_right, mul-pos, one-mul, mul-one, mul_left_comm, arith, lit<, lit≤, pow_pos}
-use lib.Ieee.{Float, nan, inf, fin, Format, binary64, up, down, round, of_int, of_bits, div, low, emax, prec}
+use Rattle.std.proofs.Common.{◌≡◌, ℕ, ◌*◌, ◌^◌, ◌≤◌, Bool, true, false, cond, ℤ, pos, negsuc, sym, refl, ap, ◌∙◌, inl, inr, lt_of_lt_of_le, mul_assoc, mul_comm, mul-lt-mul_of_pos_right, mul-pos, one-mul, mul_left_comm, arith, lit<, lit≤, pow_pos}
+use lib.Ieee.{Float, nan, inf, fin, binary64, up, down, round, of_int, of_bits, div}
 use lib.Ieee.Fits.{down_pos}
 use lib.Ieee.Exact.{HasValue, round_exact}
 use lib.Ieee.Back.{round_whole}
@@ -10,7 +10,6 @@ use Rattle.std.specs.Int.{int_max, int_min}
 use Rattle.std.proofs.lemmas.Int.{ints, clamps}
 use Rattle.std.specs.List.{AllByRecursion}
 use Rattle.planes.specs.declared.sampling.ChromaSampling.{ChromaSampling}
-use Rattle.quantize.specs.declared.answer.Scales.{Scales}
 use Rattle.quantize.specs.declared.answer.Scales.TheVariants.{Mono, Colour}
 use Rattle.logexp.specs.Held.{◌⊕◌, ◌⊖◌, ◌⊗◌}
 use Rattle.logexp.specs.LogExp.{bexp64}

@@ -1,12 +1,11 @@
 -- Every index of an answer goes with its luma AC index.
-use Rattle.std.proofs.Common.{◌≡◌, ℕ, ◌≤◌, Bool, true, false, cond, List, [], ◌∷◌, ℤ, sym, refl, subst, arith}
+use Rattle.std.proofs.Common.{◌≡◌, ℕ, ◌≤◌, Bool, true, false, cond, ℤ, sym, refl, subst, arith}
 use Rattle.tables.specs.declared.depth.Depth.{Depth}
 use Rattle.planes.specs.declared.sampling.ChromaSampling.{ChromaSampling}
 use Rattle.quantize.specs.declared.answer.QuantizerParameters.{QuantizerParameters}
-use Rattle.quantize.specs.declared.answer.Scales.{Scales}
 use Rattle.quantize.specs.declared.answer.Scales.TheVariants.{Mono, Colour}
 use Rattle.planes.specs.Planes.{monochrome, luma_log, chroma_u, chroma_v}
-use Rattle.quantize.specs.Indexes.{within, scale_of, luma_index, GoesWith, Brought, AllBrought}
+use Rattle.quantize.specs.Indexes.{within, scale_of, luma_index, GoesWith, AllBrought}
 use Rattle.quantize.specs.Answer.{chroma, dc_of, ac_of, scales_of, scale_count, parameters_of, ChromaGoes, Reaches, Lawful}
 use Rattle.quantize.proofs.Quotients.{scales_exact}
 

@@ -1,6 +1,5 @@
 -- A call stops at its first no: one lemma for each question.
-use Rattle.std.proofs.Common.{◌≡◌, ℕ, ◌+◌, ◌-◌, ◌*◌, ◌/◌, ◌^◌, ◌<◌, ◌≤◌, Bool, true, false, cond, ◌&&◌, leb, Some, None, Ok, Err, Option, Result, sym, refl, ap, ◌∙◌, mul-le-mul, arith}
-use Rattle.std.proofs.lemmas.Bool.Decides.{nat_tests}
+use Rattle.std.proofs.Common.{◌≡◌, ℕ, ◌*◌, ◌^◌, ◌<◌, ◌≤◌, Bool, true, false, leb, Some, None, Ok, Err, Option, Result, sym, refl, ap, ◌∙◌, arith}
 use Rattle.tables.specs.declared.depth.Depth.{Depth}
 use Rattle.quantize.specs.declared.sampling.ChromaSampling.{ChromaSampling}
 use Rattle.tables.specs.Depths.{depth_of}
@@ -10,7 +9,7 @@ use Rattle.setup.specs.declared.refusal.Refusal.TheVariants.{Size, Rate, Bitrate
 use Rattle.setup.specs.declared.settings.Settings.{Settings}
 use Rattle.setup.specs.declared.settings.Accepted.{Accepted}
 use Rattle.setup.specs.Tests.{in_range, lawful_highest, sized, rated, timed}
-use Rattle.setup.specs.Opening.{Lawful, pixels_of, credit_of, units_of, limit_of, accepted_of}
+use Rattle.setup.specs.Opening.{Lawful, credit_of, units_of, limit_of, accepted_of}
 use Rattle.setup.specs.Questions.{answered, found, and_then, typed, limited, accepted}
 
 -- 0 for an answer, 1 for a refusal

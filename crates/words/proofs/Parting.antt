@@ -1,8 +1,7 @@
 -- How a walk over the bytes of a text finds its lines, and over those of a line its words.
-use Rattle.std.proofs.Common.{◌≡◌, ℕ, zero, suc, ◌+◌, ◌-◌, ◌<◌, ◌≤◌, Bool, true, false, cond, eqb, List, [], ◌∷◌, ◌++◌, length, get_or, take, drop, Some, None, IsUtf8, Option, sym, refl, ap, ◌∙◌, subst, append_assoc, append-nil, arith, Bor, rules, MatchOption}
+use Rattle.std.proofs.Common.{◌≡◌, ℕ, zero, suc, ◌+◌, ◌-◌, ◌<◌, ◌≤◌, Bool, true, false, eqb, List, [], ◌∷◌, ◌++◌, length, get_or, take, drop, Some, None, IsUtf8, Option, sym, refl, ap, ◌∙◌, subst, append_assoc, arith, Bor, rules, MatchOption}
 use native.Mathlib.Numerals.{unary_clauses}
 use Rattle.std.specs.Str.{IsValidUpTo, IsCharBoundary}
-use Rattle.std.specs.Char.{is_ascii_whitespace}
 use Rattle.std.proofs.lemmas.List.{length-drop, length-take, get_or-drop, get_or-take, take-take, take_more, drop_more, drop_all}
 use Rattle.std.proofs.lemmas.Str.{IsCharBoundary-start, IsCharBoundary-after_ascii, IsUtf8-nil, IsUtf8-take}
 use Rattle.std.proofs.lemmas.Bool.{both_ways, ltb-true, ltb-false}

@@ -1,5 +1,5 @@
 -- A delay of 4 or more has an alpha of at most a quarter.
-use Rattle.std.proofs.Common.{◌+◌, ◌*◌, ◌/◌, ◌^◌, ◌<◌, ◌≤◌, max, arith}
+use Rattle.std.proofs.Common.{◌^◌, ◌<◌, arith}
 use Rattle.bessel.proofs.Gains.{alpha_in}
 use Rattle.bessel.proofs.parameters.delay_tangent.Goals as goal
 

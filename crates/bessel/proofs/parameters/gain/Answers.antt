@@ -1,5 +1,4 @@
 -- The gain's bounds, from the divisor's.
-use Rattle.std.proofs.Common.{arith}
 use Rattle.bessel.proofs.Gains.{gain_small, gain_near}
 use Rattle.bessel.proofs.parameters.gain.Goals as goal
 

@@ -1,7 +1,6 @@
 -- The parameters from their steps, each within its bounds.
-use Rattle.std.proofs.Common.{◌≡◌, ℕ, ◌+◌, ◌*◌, ◌/◌, ◌^◌, ◌<◌, ◌≤◌, max, ℤ, pos, nat_abs, sym, ◌∙◌, arith, w32, w64, SFits, to_z, of_z, rules}
+use Rattle.std.proofs.Common.{◌≡◌, ◌+◌, ◌/◌, ◌^◌, ◌≤◌, pos, nat_abs, arith, w32, w64, SFits, to_z, of_z, rules}
 use Rattle.std.proofs.lemmas.Int.{ints, to_z-of_z}
-use Rattle.bessel.specs.Parameters.{parameters}
 use Rattle.bessel.proofs.Gains.{square_in, parameters_by, in_range_by, balanced_by}
 use Rattle.bessel.proofs.parameters.iir_bessel2_get_parameters.Goals as goal
 

@@ -1,5 +1,5 @@
 use Rattle.std.proofs.Common.{◌≡◌, sym, arith, w64, to_z, of_z, rules}
-use Rattle.std.proofs.lemmas.Int.{ints, to_z-of_z}
+use Rattle.std.proofs.lemmas.Int.{ints}
 use Rattle.logexp.specs.LogExp.{bexp64}
 use Rattle.logexp.proofs.ExpEnds.{bexp_low, bexp_top, bexp_by, shr_bits, whole_of}
 use Rattle.logexp.proofs.ExactPowers.{exact_power}

@@ -2,7 +2,6 @@ use Rattle.std.proofs.Common.{ℕ, suc, ◌+◌, ap, arith, rules}
 use Rattle.std.proofs.lemmas.Int.{ints}
 use Rattle.logexp.specs.LogExp.{exp_turn}
 use Rattle.logexp.proofs.ExpTurns.{along_of, turned_bits, same_exp, w_next, w_bound_small}
-use Rattle.logexp.proofs.TableRules.{step_small}
 use Rattle.logexp.proofs.exp.exp_turn.Goals as goal
 
 pub overflow_add-result : goal.overflow_add-result

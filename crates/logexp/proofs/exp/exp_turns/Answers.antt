@@ -1,4 +1,4 @@
-use Rattle.std.proofs.Common.{refl, arith, rules}
+use Rattle.std.proofs.Common.{refl, arith}
 use Rattle.logexp.specs.LogExp.{exp_turns}
 use Rattle.logexp.proofs.ExpTurns.{exp_inv, exp_turns_more, exp_done}
 use Rattle.logexp.proofs.exp.exp_turns.Goals as goal

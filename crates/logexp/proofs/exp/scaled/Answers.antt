@@ -1,5 +1,5 @@
 use Rattle.std.proofs.Common.{sym, arith, w64, SFits, rules}
-use Rattle.std.proofs.lemmas.Int.{ints, to_z-of_z}
+use Rattle.std.proofs.lemmas.Int.{ints}
 use Rattle.logexp.proofs.ExpEnds.{scaled_zero, scaled_by, closed_least}
 use Rattle.logexp.proofs.exp.scaled.Goals as goal
 

@@ -1,4 +1,4 @@
-use Rattle.std.proofs.Common.{ℕ, suc, ◌+◌, ap, arith, rules}
+use Rattle.std.proofs.Common.{suc, arith, rules}
 use Rattle.std.proofs.lemmas.Int.{ints}
 use Rattle.logexp.specs.LogExp.{tail_turn}
 use Rattle.logexp.proofs.ExpTurns.{along_of, turned_bits, same_tail, tail_next, lo_small}

@@ -1,6 +1,6 @@
-use Rattle.std.proofs.Common.{◌≡◌, ℕ, ◌+◌, ◌^◌, ◌<◌, ◌≤◌, ℤ, pos, nat_abs, sym, ap, ◌∙◌, arith, pow_pos, w64, to_z, of_z}
+use Rattle.std.proofs.Common.{◌≡◌, ℕ, ◌+◌, ◌^◌, ◌<◌, ◌≤◌, pos, nat_abs, sym, ap, ◌∙◌, arith, pow_pos, w64, to_z, of_z}
 use Rattle.std.proofs.lemmas.Int.{ints}
-use Rattle.logexp.specs.LogExp.{ipart_of, moved, blog_parts, blog64}
+use Rattle.logexp.specs.LogExp.{ipart_of, blog_parts, blog64}
 use Rattle.logexp.proofs.LogTurns.{top, blog_none, blog_is, blog_most, blog_least, parts_least, one_moved}
 use Rattle.logexp.proofs.LogLaws.{log_band}
 use Rattle.logexp.proofs.ExactPowers.{exact_log}

@@ -1,5 +1,5 @@
 -- The scale from its steps.
-use Rattle.std.proofs.Common.{◌≡◌, ℤ, pos, arith, w64, SFits, to_z, of_z, rules}
+use Rattle.std.proofs.Common.{◌≡◌, pos, arith, w64, SFits, to_z, rules}
 use Rattle.std.proofs.lemmas.Int.{ints, to_z-of_z}
 use Rattle.model.proofs.Filters.{scale_by}
 use Rattle.model.proofs.filter.scale_of.Goals as goal

@@ -1,6 +1,6 @@
 -- By the bands of both functions.
-use Rattle.std.proofs.Common.{◌≡◌, ℤ, pos, sym, ap, ◌∙◌, subst, arith, w64, SFits, to_z, of_z, rules}
-use Rattle.std.proofs.lemmas.Int.{ints, to_z-of_z}
+use Rattle.std.proofs.Common.{◌≡◌, ℤ, pos, sym, ap, ◌∙◌, subst, w64, SFits, to_z, of_z, rules}
+use Rattle.std.proofs.lemmas.Int.{to_z-of_z}
 use Rattle.logexp.specs.LogExp.{bexp64}
 use Rattle.model.specs.Scales.{counted}
 use Rattle.model.specs.Laws.{NearSeen}

@@ -1,6 +1,5 @@
 -- Both ways of the hard limit.
-use Rattle.std.proofs.Common.{◌≡◌, ℕ, ◌/◌, ℤ, pos, ◌≤ℤ◌, ◌<ℤ◌, refl, ◌∙◌, arith, w64, SFits, to_z, of_z, rules}
-use lib.Signed.{quot_z, shr_z}
+use Rattle.std.proofs.Common.{◌≡◌, pos, ◌∙◌, arith, w64, SFits, to_z, rules}
 use Rattle.std.proofs.lemmas.Int.{ints, to_z-of_z}
 use Rattle.model.proofs.Trimming.{hard_still, hard_moved}
 use Rattle.model.proofs.trim.hard_trim.Goals as goal

@@ -1,6 +1,5 @@
 -- The three ways of the soft limit; a number that is passed on goes to its bits and back.
-use Rattle.std.proofs.Common.{◌≡◌, ℕ, ◌/◌, ℤ, pos, ◌≤ℤ◌, ◌<ℤ◌, refl, ◌∙◌, arith, w64, SFits, to_z, of_z, rules}
-use lib.Signed.{quot_z, shr_z}
+use Rattle.std.proofs.Common.{◌≡◌, pos, ◌∙◌, arith, w64, SFits, to_z, rules}
 use Rattle.std.proofs.lemmas.Int.{ints, to_z-of_z}
 use Rattle.model.proofs.Trimming.{soft_none, soft_still, soft_moved}
 use Rattle.model.proofs.trim.soft_trim.Goals as goal

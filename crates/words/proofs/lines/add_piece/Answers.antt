@@ -1,6 +1,5 @@
-use Rattle.std.proofs.Common.{◌≡◌, ℕ, ◌-◌, List, [], ◌∷◌, ◌++◌, length, take, drop, vec_items, sym, ap, ◌∙◌, append-nil, rules}
+use Rattle.std.proofs.Common.{◌≡◌, ◌-◌, length, take, drop, vec_items, ap, append-nil, rules}
 use Rattle.numerals.specs.Words.{texts}
-use Rattle.words.specs.Lines.{keeps}
 use Rattle.words.proofs.Parting.{texts_push, added_kept, added_none}
 use Rattle.words.proofs.lines.add_piece.Goals as goal
 

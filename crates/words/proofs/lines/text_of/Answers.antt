@@ -1,4 +1,4 @@
-use Rattle.std.proofs.Common.{subst, arith, rules}
+use Rattle.std.proofs.Common.{rules}
 use native.Mathlib.Nat.{sub-zero}
 use Rattle.words.proofs.Parting.{front_utf8}
 use Rattle.words.proofs.lines.text_of.Goals as goal

@@ -1,5 +1,5 @@
 -- The output from its steps; a number that is passed on goes to its bits and back.
-use Rattle.std.proofs.Common.{◌≡◌, get_or, ℤ, pos, ◌∙◌, w32, w64, SFits, to_z, of_z, rules}
+use Rattle.std.proofs.Common.{◌≡◌, get_or, ℤ, pos, ◌∙◌, w32, w64, SFits, rules}
 use lib.Signed.{shr_z}
 use Rattle.std.proofs.lemmas.Int.{to_z-of_z}
 use Rattle.bessel.specs.Follow.{inputs, weighed, smoothed}

@@ -1,6 +1,6 @@
 -- The curve from the settings' figures.
 use Rattle.std.proofs.Common.{arith, w64, to_z, rules}
-use Rattle.std.proofs.lemmas.Int.{ints, to_z_pos}
+use Rattle.std.proofs.lemmas.Int.{to_z_pos}
 use Rattle.model.proofs.Making.{curve_by}
 use Rattle.model.proofs.curve.Curve.of.Goals as goal
 

@@ -1,6 +1,6 @@
 -- Both ways of a lesson.
-use Rattle.std.proofs.Common.{◌≡◌, Bool, true, false, ◌||◌, eqb, ℤ, pos, arith, w32, w64, SFits, to_z, of_z, rules}
-use Rattle.std.proofs.lemmas.Int.{ints, to_z-of_z}
+use Rattle.std.proofs.Common.{◌≡◌, true, false, ◌||◌, eqb, arith, w32, w64, SFits, rules}
+use Rattle.std.proofs.lemmas.Int.{to_z-of_z}
 use Rattle.std.proofs.lemmas.Bool.Decides.{nat_tests}
 use Rattle.model.proofs.Filters.{next_begun, next_followed}
 use Rattle.model.proofs.filter.Filter.learn.Goals as goal

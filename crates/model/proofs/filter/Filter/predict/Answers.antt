@@ -1,6 +1,6 @@
 -- The count from its steps.
-use Rattle.std.proofs.Common.{◌≡◌, ℤ, pos, arith, w64, SFits, to_z, of_z, rules}
-use Rattle.std.proofs.lemmas.Int.{ints, to_z-of_z}
+use Rattle.std.proofs.Common.{w64, SFits, rules}
+use Rattle.std.proofs.lemmas.Int.{to_z-of_z}
 use Rattle.model.proofs.Filters.{count_by}
 use Rattle.model.proofs.filter.Filter.predict.Goals as goal
 

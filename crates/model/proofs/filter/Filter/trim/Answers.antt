@@ -1,7 +1,7 @@
 -- The soft limit, then the hard limit, each from its steps.
-use Rattle.std.proofs.Common.{◌≡◌, ℕ, ◌/◌, ℤ, pos, ◌≤ℤ◌, ◌<ℤ◌, refl, ◌∙◌, arith, w64, SFits, to_z, of_z, rules}
-use lib.Signed.{quot_z, shr_z}
-use Rattle.std.proofs.lemmas.Int.{ints, to_z-of_z}
+use Rattle.std.proofs.Common.{◌∙◌, w64, SFits, rules}
+use lib.Signed.{shr_z}
+use Rattle.std.proofs.lemmas.Int.{to_z-of_z}
 use Rattle.model.proofs.Trimming.{trim_by}
 use Rattle.model.proofs.filter.Filter.trim.Goals as goal
 
