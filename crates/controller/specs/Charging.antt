@@ -1,5 +1,5 @@
 -- What a report and a show charge, and what they leave of a core.
-use Rattle.std.specs.Prelude.{ℕ, ◌+◌, Bool, true, false, cond, ◌&&◌, ◌||◌, ℤ, pos, ◌+ℤ◌, ◌-ℤ◌, None, ◌==◌, int_lt, slice_index, slice_set}
+use Rattle.std.specs.Prelude.{ℕ, ◌+◌, Bool, true, cond, ◌&&◌, ◌||◌, ℤ, pos, ◌+ℤ◌, ◌-ℤ◌, None, ◌==◌, int_lt, slice_index, slice_set}
 use Rattle.std.specs.Int.{int_min}
 use Rattle.logexp.specs.Held.{◌⊕◌, ◌⊖◌}
 use Rattle.flat.specs.Flat.{code_of}

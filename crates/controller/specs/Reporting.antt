@@ -1,5 +1,5 @@
 -- Trials, reports, shows, withdrawals and the status.
-use Rattle.std.specs.Prelude.{ℕ, Bool, true, false, cond, ℤ, pos, Some, None, Ok, Err, Option, ◌==◌, slice_index}
+use Rattle.std.specs.Prelude.{ℕ, Bool, true, false, cond, ℤ, pos, Some, None, Ok, Option, ◌==◌, slice_index}
 use Rattle.flat.specs.Flat.{code_of}
 use Rattle.flat.specs.declared.subtype.Subtype.{Subtype}
 use Rattle.calls.specs.declared.answer.Reported.{Reported}

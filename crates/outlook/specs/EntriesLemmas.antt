@@ -1,6 +1,6 @@
 -- The bytes of lists of entries: their number, each, and that all are lawful.
-use Rattle.std.specs.Prelude.{◌≡◌, ℕ, ◌+◌, ◌<◌, true, List, [], ◌∷◌, ◌++◌, length, take, slice_index, slice_index_or}
-use Rattle.std.proofs.Common.{sym, ap, ◌∙◌}
+use Rattle.std.specs.Prelude.{◌≡◌, ℕ, ◌+◌, ◌<◌, ◌≤◌, true, List, [], ◌∷◌, ◌++◌, length, take, slice_index, slice_index_or}
+use Rattle.std.proofs.Common.{sym, ap, subst, ◌∙◌}
 use Rattle.std.specs.List.{AllByRecursion}
 use Rattle.std.proofs.lemmas.List.{length-map, get_or-map, map_push, take_more}
 use Rattle.std.proofs.lemmas.Bool.{and_parts}
@@ -10,6 +10,10 @@ use Rattle.outlook.specs.Entries.{bytes_of}
 
 pub length_bytes : (es : List Entry) → length (bytes_of es) ≡ length es
 length_bytes es = length-map es (λ e. e.byte)
+
+-- so few entries have so few bytes
+pub bytes_few : (es : List Entry) (n : ℕ) → n ≡ length es → n ≤ 4096 → length (bytes_of es) ≤ 4096
+bytes_few es n is few = subst (λ (k : ℕ). k ≤ 4096) (is ∙ sym (length_bytes es)) few
 
 -- the byte of an entry that was read
 pub byte_at : (es : List Entry) (i : ℕ) (e : Entry) → i < length es → e ≡ slice_index_or es i e → e.byte ≡ slice_index (bytes_of es) i

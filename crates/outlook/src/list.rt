@@ -1,8 +1,7 @@
 // An outlook that is a list of entries. It rests on the walk over entries.
 ghost use Rattle.std.specs.Prelude.{◌≤◌, vec_len};
 ghost use Rattle.outlook.specs.Entries.{bytes_of};
-ghost use Rattle.std.proofs.Common.{arith};
-ghost use Rattle.outlook.specs.EntriesLemmas.{length_bytes, bytes_lawful};
+ghost use Rattle.outlook.specs.EntriesLemmas.{bytes_few, bytes_lawful};
 
 use crate::counting::Outlook;
 use crate::counts::Counts;
@@ -19,7 +18,7 @@ pub struct List {
 impl Outlook for List {
     ghost entries = { λ o. bytes_of o.items.items };
 
-    ghost few = { λ o. omega (arith, length_bytes o.items.items, o.items.ok.0) };
+    ghost few = { λ o. bytes_few o.items.items (vec_len o.items) o.items.ok.0 o.few };
 
     ghost lawful = { λ o. bytes_lawful o.items.items };
 

@@ -1,5 +1,5 @@
 -- How the questions of lines are gathered, one line after the other.
-use Rattle.std.proofs.Common.{◌≡◌, ℕ, suc, ◌+◌, ◌<◌, true, List, [], ◌∷◌, ◌++◌, length, get_or, take, Some, None, Option, sym, refl, ap, ◌∙◌, append_assoc, append-nil, arith}
+use Rattle.std.proofs.Common.{◌≡◌, ℕ, ◌+◌, ◌<◌, true, List, [], ◌∷◌, ◌++◌, length, get_or, take, Some, None, Option, sym, refl, ap, append_assoc, append-nil, arith}
 use Rattle.std.proofs.lemmas.List.{take_more}
 use Rattle.words.specs.Words.{then}
 use Rattle.words.specs.Lines.{words_in}
@@ -7,7 +7,7 @@ use Rattle.queries.specs.declared.fault.Fault as fault
 use Rattle.queries.specs.declared.fault.Fault.TheVariants.{Malformed, NotText, NoMemory}
 use Rattle.queries.specs.declared.query.Query.{Query}
 use Rattle.queries.specs.Asked.{asked}
-use Rattle.queries.specs.Read.{asked_by, line_asks, joined, all_asked, LineTold, ToldWrong}
+use Rattle.queries.specs.Read.{line_asks, joined, all_asked, LineTold, ToldWrong}
 
 pub no_words : (line : List ℕ) (ws : List (List ℕ)) → ws ≡ words_in line → length ws ≡ 0 → line_asks line ≡ Some []
 unfolding line_asks

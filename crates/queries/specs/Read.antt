@@ -1,5 +1,5 @@
 -- What the lines of a text ask, and which line is told as wrong.
-use Rattle.std.specs.Prelude.{◌≡◌, ℕ, suc, ◌<◌, Bool, true, false, List, [], ◌∷◌, ◌++◌, length, take, Some, None, Ok, Err, Option, Result, slice_index_or}
+use Rattle.std.specs.Prelude.{◌≡◌, ℕ, suc, ◌<◌, Bool, false, List, [], ◌∷◌, ◌++◌, length, take, Some, None, Option, slice_index_or}
 use Rattle.words.specs.Words.{then}
 use Rattle.words.specs.Lines.{words_in, lines_in, TextOf}
 use Rattle.queries.specs.declared.fault.Fault as fault

@@ -1,7 +1,6 @@
 -- What a question is answered, by the definitions of the logarithm, the exponential and the quantizer.
-use Rattle.std.specs.Prelude.{ℕ, Ok, Err, Result}
+use Rattle.std.specs.Prelude.{Ok, Err, Result}
 use Rattle.logexp.specs.LogExp.{bexp64, blog64}
-use Rattle.quantize.specs.declared.answer.QuantizerParameters.{QuantizerParameters}
 use Rattle.quantize.specs.declared.answer.Refusal.{Refusal}
 use Rattle.quantize.specs.Call.{number, ac_answer, dc_answer, select_ac_answer, select_dc_answer, quantizer_answer}
 use Rattle.queries.specs.declared.answer.Answer.{Answer}

@@ -1,9 +1,8 @@
 -- What the making of an outlook leaves.
-use Rattle.std.proofs.Common.{◌≡◌, ℕ, ◌≤◌, List, Some, None, Ok, Err, Option, refl, ap, arith}
+use Rattle.std.proofs.Common.{◌≡◌, ℕ, List, Some, None, Ok, Err, Option, refl, arith}
 use Rattle.outlook.specs.Making.{Answered}
 use Rattle.outlook.specs.Numbers.{number_of}
 use Rattle.outlook.specs.declared.refusal.Refusal.{Refusal}
-use Rattle.outlook.specs.declared.refusal.Refusal.TheVariants.{WrongLength, Unlawful, Memory}
 use Rattle.scripts.specs.Read.{refusing}
 
 -- what was made was refused by no question, and has the bytes that were given

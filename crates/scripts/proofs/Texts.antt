@@ -1,12 +1,12 @@
 -- How the lines of a text are read, one after the other.
-use Rattle.std.proofs.Common.{◌≡◌, ℕ, ◌+◌, ◌<◌, true, List, [], ◌∷◌, ◌++◌, length, get_or, take, Some, None, Option, sym, refl, ap, ◌∙◌, subst, arith}
+use Rattle.std.proofs.Common.{◌≡◌, ℕ, ◌+◌, ◌<◌, true, List, [], ◌∷◌, ◌++◌, length, get_or, take, Some, None, Option, sym, refl, arith}
 use Rattle.std.proofs.lemmas.List.{take_more}
 use Rattle.words.specs.Words.{then}
 use Rattle.words.specs.Lines.{words_in}
 use Rattle.scripts.specs.declared.fault.Fault as fault
 use Rattle.scripts.specs.declared.fault.Fault.TheVariants.{Malformed, NotText, NoMemory}
 use Rattle.scripts.specs.Read.{Read, empty, words_read, Told}
-use Rattle.scripts.specs.Text.{words_add, line_adds, all_add, ToldWrong}
+use Rattle.scripts.specs.Text.{line_adds, all_add, ToldWrong}
 
 pub no_words : (line : List ℕ) (ws : List (List ℕ)) (s : Read) → ws ≡ words_in line → length ws ≡ 0 → line_adds line s ≡ Some s
 unfolding line_adds

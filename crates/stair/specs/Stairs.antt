@@ -1,5 +1,5 @@
 -- The stair: its steps, its counts and its making.
-use Rattle.std.specs.Prelude.{ℕ, zero, suc, ◌+◌, ◌-◌, ◌^◌, min, Bool, true, cond, ◌&&◌, List, [], ℤ, pos, negsuc, ◌+ℤ◌, Ok, Err, Result, nat_le, nat_lt, slice_index, slice_index_or}
+use Rattle.std.specs.Prelude.{ℕ, zero, suc, ◌-◌, ◌^◌, min, Bool, true, cond, ◌&&◌, List, [], ℤ, pos, negsuc, ◌+ℤ◌, Ok, Err, Result, nat_le, nat_lt, slice_index, slice_index_or}
 use Rattle.std.specs.Int.Signed.{shr_z}
 use Rattle.stair.specs.declared.refusal.Refusal.{Refusal}
 use Rattle.stair.specs.declared.refusal.Refusal.TheVariants.{Rises}

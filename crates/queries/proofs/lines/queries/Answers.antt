@@ -1,4 +1,4 @@
-use Rattle.std.proofs.Common.{◌≡◌, length, vec_items, vec_len, sym, ap, ◌∙◌, rules}
+use Rattle.std.proofs.Common.{◌≡◌, length, vec_items, sym, ap, ◌∙◌}
 use Rattle.words.specs.Words.{texts}
 use Rattle.words.specs.Lines.{lines_in}
 use Rattle.words.proofs.Reading.{length_texts}

@@ -1,4 +1,4 @@
-use Rattle.std.proofs.Common.{◌≡◌, ℕ, ◌<◌, List, [], ◌∷◌, ◌++◌, length, vec_items, sym, ap, ◌∙◌, append-nil, Bor, rules}
+use Rattle.std.proofs.Common.{◌≡◌, ℕ, ◌<◌, List, [], ◌∷◌, length, vec_items, sym, ap, ◌∙◌, append-nil, Bor, rules}
 use Rattle.words.specs.Words.{texts}
 use Rattle.words.proofs.Reading.{length_texts}
 use Rattle.queries.specs.Asked.{asked}

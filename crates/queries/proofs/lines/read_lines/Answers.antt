@@ -1,8 +1,7 @@
-use Rattle.std.proofs.Common.{◌≡◌, ℕ, ◌<◌, ◌≤◌, List, [], length, Some, vec_items, Option, sym, ap, ◌∙◌, subst, rules}
+use Rattle.std.proofs.Common.{◌≡◌, ℕ, ◌<◌, ◌≤◌, List, [], length, Some, vec_items, sym, ap, ◌∙◌, subst, rules}
 use Rattle.std.proofs.lemmas.List.{take_all}
 use Rattle.words.specs.Words.{texts}
 use Rattle.words.proofs.Reading.{length_texts, texts_at}
-use Rattle.queries.specs.declared.query.Query.{Query}
 use Rattle.queries.specs.Read.{line_asks, all_asked, LineTold}
 use Rattle.queries.proofs.Reading.{all_none, all_more, told_first}
 use Rattle.queries.proofs.lines.read_lines.Goals as goal

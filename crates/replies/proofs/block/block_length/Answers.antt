@@ -1,5 +1,4 @@
-use Rattle.std.proofs.Common.{◌≡◌, ◌<◌, length, sym, arith}
-use Rattle.replies.specs.Blocks.{block_length}
+use Rattle.std.proofs.Common.{sym, arith}
 use Rattle.replies.proofs.Walks.{until_here, until_more, until_all, whole}
 use Rattle.replies.proofs.block.block_length.Goals as goal
 

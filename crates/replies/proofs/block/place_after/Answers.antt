@@ -1,4 +1,4 @@
-use Rattle.std.proofs.Common.{◌≡◌, List, drop, Option, sym, ap, ◌∙◌}
+use Rattle.std.proofs.Common.{drop, Option, sym, ap, ◌∙◌}
 use Rattle.calls.specs.declared.call.Call.{Call}
 use Rattle.replies.specs.Replied.{left}
 use Rattle.replies.proofs.Walks.{rest_at, rest_past}

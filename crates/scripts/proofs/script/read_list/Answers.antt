@@ -1,8 +1,7 @@
-use Rattle.std.proofs.Common.{◌≡◌, ℕ, List, map, length, Some, None, vec_items, sym, refl, ap, ◌∙◌}
+use Rattle.std.proofs.Common.{◌≡◌, ℕ, map, length, Some, None, vec_items, sym, refl, ap, ◌∙◌}
 use Rattle.std.proofs.lemmas.List.{length-map}
 use Rattle.std.proofs.lemmas.Result.{err_from_is_err_and}
 use Rattle.words.specs.Words.{texts}
-use Rattle.outlook.specs.Bytes.{repeated}
 use Rattle.outlook.specs.Entries.{bytes_of}
 use Rattle.outlook.specs.Making.{list_question}
 use Rattle.scripts.specs.declared.line.Line.TheVariants as line

@@ -1,4 +1,4 @@
-use Rattle.std.proofs.Common.{sym, refl}
+use Rattle.std.proofs.Common.{sym}
 use Rattle.words.proofs.Reading.{unlike}
 use Rattle.scripts.proofs.script.read_words.Goals as goal
 

@@ -1,4 +1,4 @@
-use Rattle.std.proofs.Common.{◌≡◌, ℕ, ◌<◌, List, length, Some, vec_items, Option, sym, ap, ◌∙◌, subst, Bor, rules, MatchResult}
+use Rattle.std.proofs.Common.{◌≡◌, ℕ, ◌<◌, List, length, Some, vec_items, Option, ap, ◌∙◌, subst, Bor, rules, MatchResult}
 use Rattle.words.specs.Words.{texts}
 use Rattle.words.proofs.Reading.{length_texts}
 use Rattle.scripts.specs.Read.{Read, words_read, read_of, Told}

@@ -3,7 +3,7 @@ use Rattle.std.proofs.lemmas.List.{take_all}
 use Rattle.words.specs.Words.{texts}
 use Rattle.words.proofs.Reading.{length_texts, texts_at}
 use Rattle.outlook.specs.Either.{entries_known}
-use Rattle.scripts.specs.Read.{Read, empty, read_of, Told}
+use Rattle.scripts.specs.Read.{empty, read_of, Told}
 use Rattle.scripts.specs.Text.{line_adds, all_add}
 use Rattle.scripts.proofs.Texts.{all_none, all_more, told_first}
 use Rattle.scripts.proofs.text.read_lines.Goals as goal

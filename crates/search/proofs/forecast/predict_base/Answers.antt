@@ -1,4 +1,4 @@
-use Rattle.std.proofs.Common.{get_or, ℤ, pos, arith, w64, SFits, rules}
+use Rattle.std.proofs.Common.{get_or, pos, w64, SFits, rules}
 use Rattle.flat.specs.declared.subtype.Subtype.TheVariants.{I, P, B0, B1}
 use Rattle.search.specs.Predict.{with_share}
 use Rattle.search.proofs.Forecasting.{at_both, forecast_is}

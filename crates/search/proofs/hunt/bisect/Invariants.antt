@@ -1,4 +1,4 @@
-use Rattle.std.proofs.Common.{◌-◌, ℤ, pos}
+use Rattle.std.proofs.Common.{◌-◌}
 use Rattle.search.specs.Predict.{forecast}
 use Rattle.search.proofs.Hunting.{Hunting}
 use Rattle.search.proofs.hunt.bisect.Given as goal

@@ -1,5 +1,5 @@
 -- A turn shows one step more, or the one that rises.
-use Rattle.std.proofs.Common.{refl, arith, rules}
+use Rattle.std.proofs.Common.{refl, arith}
 use Rattle.stair.specs.Stairs.{descends}
 use Rattle.stair.proofs.Rows.{down_more, rise_at}
 use Rattle.stair.proofs.stair.descends.Goals as goal

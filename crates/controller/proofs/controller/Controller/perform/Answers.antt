@@ -1,4 +1,4 @@
-use Rattle.std.proofs.Common.{◌≡◌, [], sym, ap, ◌∙◌, w64, SFits, rules}
+use Rattle.std.proofs.Common.{[], sym, ap, ◌∙◌, w64, SFits, rules}
 use Rattle.controller.proofs.Choosings.{entries_in, entries_out, performed}
 use Rattle.controller.proofs.controller.Controller.perform.Goals as goal
 

@@ -1,6 +1,4 @@
-use Rattle.std.proofs.Common.{◌≡◌, ℕ, sym, ap, ◌∙◌, subst, arith, w64, SFits, rules}
-use Rattle.calls.specs.declared.answer.Reported.{Reported}
-use Rattle.controller.specs.Charging.{is_dropped, charged}
+use Rattle.std.proofs.Common.{sym, subst, arith, w64, SFits, rules}
 use Rattle.controller.specs.Soundness.{Sound}
 use Rattle.controller.proofs.Charges.{reported_is, reported_sound}
 use Rattle.controller.proofs.state.Core.report.Goals as goal

@@ -1,7 +1,6 @@
-use Rattle.std.proofs.Common.{◌≡◌, ℕ, ◌^◌, ◌<◌, ◌≤◌, min, max, ℤ, pos, neg_ℤ, ◌≤ℤ◌, ◌<ℤ◌, arith, w64, SFits, to_z, of_z, rules}
-use Rattle.std.proofs.lemmas.Int.{ints, to_z-of_z}
+use Rattle.std.proofs.Common.{◌≡◌, ℕ, ◌^◌, ◌<◌, min, max, ℤ, pos, neg_ℤ, ◌≤ℤ◌, ◌<ℤ◌, arith, w64, SFits, to_z, of_z, rules}
+use Rattle.std.proofs.lemmas.Int.{to_z-of_z}
 use Rattle.flat.specs.Flat.{ac_log, Ordered}
-use Rattle.tables.specs.declared.depth.Depth.{Depth}
 use Rattle.search.proofs.ends.Ends.between.Goals as goal
 
 -- logs that never fall and lie within 8 doublings of 0, read through their bits

@@ -1,5 +1,5 @@
 -- The rows are kept as they came, and the law holds of them.
-use Rattle.std.proofs.Common.{◌≡◌, sym, refl}
+use Rattle.std.proofs.Common.{sym, refl}
 use Rattle.stair.proofs.Rows.{never_more}
 use Rattle.stair.proofs.stair.Stair.new.Goals as goal
 
