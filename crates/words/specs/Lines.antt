@@ -1,5 +1,5 @@
--- The lines of a text and the words of a line, from their bytes. `asciiWhite` is the library's test
--- for a tab, a line feed, a form feed, a carriage return or a blank.
+-- The lines of a text and the words of a line, from their bytes. `is_ascii_whitespace` is the library's
+-- test for a tab, a line feed, a form feed, a carriage return or a blank.
 use Rattle.std.specs.Prelude.{◌≡◌, ℕ, ◌-◌, ◌<◌, ◌≤◌, Bool, true, false, cond, List, [], ◌∷◌, ◌++◌, take, IsUtf8, ◌==◌, ◌≢◌, nat_eq, nat_lt, slice_index}
 use Rattle.std.specs.Str.{IsValidUpTo}
 use Rattle.std.specs.Char.{is_ascii_whitespace}
