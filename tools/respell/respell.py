@@ -16,8 +16,10 @@ import sys
 
 NAME = r"[^\W\d][\w'\u2032]*(?:-[\w'\u2032]+)*"
 TOKEN = re.compile(r'"(?:[^"\\]|\\.)*"|--[^\n]*|//[^\n]*|\u00ab[^\u00bb]*\u00bb|' + NAME)
-# Where the plain spelling falls together with another name.
+# Where the plain spelling falls together with another name, or there is none; and a record's parameter.
 CHOSEN = {
+    "D": "subtype_distance",
+    "log-bits": "log_bits",
     "logQ": "log_q_of",
     "subtypeOf": "subtype_of_code",
     "ac-table": "ac_table_stands",
@@ -35,6 +37,8 @@ def files():
 
 
 def badly_spelled(name):
+    if name in CHOSEN:
+        return True
     if name[0].isupper():
         return "-" in name
     return "-" in name or "\u2032" in name or re.search(r"[a-z][A-Z]", name) is not None
@@ -51,27 +55,30 @@ def spelled(name):
 
 
 def declared():
-    """The names that specs/ and proofs/ define, and the fields of their records."""
+    """The names that specs/ and proofs/ define, those in modules too, and the fields of their records."""
     names, fields = collections.defaultdict(set), collections.defaultdict(set)
     for f in files():
         if f.endswith(".rt"):
             continue
-        record = False
+        # how far the record is indented whose fields may follow
+        record = None
         for line in open(f, encoding="utf-8"):
+            depth = len(line) - len(line.lstrip(" "))
+            if line.strip() and record is not None and depth <= record:
+                record = None
             head = re.match(r"^ *(?:(?:abbrev|unfoldable|pub) )*(record|data) ([^\s:(){}]+)", line)
             if head:
                 names[head.group(2)].add(f)
-                record = True
+                record = depth
                 continue
-            item = re.match(r"^( *)(?:(?:abbrev|unfoldable|pub) )*([^\s:(){}\u25cc]+) : ", line)
-            if item:
-                made = f.endswith(MADE) and re.search(r" : (goal|need|given)\.", line)
-                if item.group(1) and record:
-                    fields[item.group(2)].add(f)
-                elif not made and len(item.group(1)) <= 2:
-                    names[item.group(2)].add(f)
-                if not item.group(1):
-                    record = False
+            item = re.match(r"^ *(?:(?:abbrev|unfoldable|pub) )*([^\s:(){}\u25cc]+) : ", line)
+            if not item or line.lstrip().startswith("--"):
+                continue
+            made = f.endswith(MADE) and re.search(r" : (goal|need|given)\.", line)
+            if record is not None:
+                fields[item.group(1)].add(f)
+            elif not made and depth <= 4:
+                names[item.group(1)].add(f)
     return names, fields
 
 
@@ -83,7 +90,7 @@ def in_backticks(text, turn):
 
 def main(dry):
     names, fields = declared()
-    turn = {n: spelled(n) for n in names if badly_spelled(n)}
+    turn = {n: spelled(n) for n in (*names, *CHOSEN) if badly_spelled(n)}
     turn_field = {n: spelled(n) for n in fields if badly_spelled(n)}
     found = 0
     back = collections.defaultdict(set)

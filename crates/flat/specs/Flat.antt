@@ -27,15 +27,15 @@ code_of B0 = 2
 code_of B1 = 3
 
 -- the distance of the subtypes' logs: 8 times the whole number nearest to 33,810,170 × 2^54 / 86,043,287
-abbrev pub D : ℕ
-D = 8 * ((2 * (33810170 * 2 ^ 54) + 86043287) / (2 * 86043287))
+abbrev pub subtype_distance : ℕ
+subtype_distance = 8 * ((2 * (33810170 * 2 ^ 54) + 86043287) / (2 * 86043287))
 
 -- how far the log of a subtype lies from the base
 abbrev pub distance : Subtype → ℤ
-distance I = neg_ℤ (pos D)
+distance I = neg_ℤ (pos subtype_distance)
 distance P = pos 0
-distance B0 = pos D
-distance B1 = pos (2 * D)
+distance B0 = pos subtype_distance
+distance B1 = pos (2 * subtype_distance)
 
 -- the log of a subtype from the base: the base to the nearest multiple of 2^12, and the distance
 unfoldable pub log_q_of : Subtype → ℤ → ℤ

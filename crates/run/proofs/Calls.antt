@@ -19,7 +19,7 @@ use Rattle.controller.specs.Reporting.{report_on, trial_of, trial_on, show_on, w
 use Rattle.controller.specs.Performing.{entries_at, of_choose, of_trial, of_report, of_show, answer_to, core_after}
 use Rattle.run.specs.Ledger.{Entry, entry, report_entry, show_entry}
 use Rattle.run.specs.Laws.{if_accepted, Droppable, choice}
-use Rattle.run.proofs.Flow.{flow, flow_append, Above, above-end}
+use Rattle.run.proofs.Flow.{flow, flow_append, Above, above_end}
 
 -- from one core to another through the entries of a ledger and so many accepted choices
 pub record Goes (s t : Core) (es : List Entry) (n : ℕ) : Type 0 where
@@ -172,7 +172,7 @@ module _ {M O : Type 0} (count : M → ℕ → ℤ → ℕ) (trimmed : M → ℕ
   pub held : (c : Call) → Held s → Droppable (c, answer c) → Held (core_after count trimmed next entries outlooks s m c)
   held c h d =
       let g = goes c in
-      let a = above-end s.reservoir.limit s.reservoir.credit s.reservoir.fullness (entry s.reservoir.credit c (answer c)) (above c h d) in
+      let a = above_end s.reservoir.limit s.reservoir.credit s.reservoir.fullness (entry s.reservoir.credit c (answer c)) (above c h d) in
       record {
         dropping = ap (λ x. x.dropping) g.profile ∙ h.dropping;
         credit = subst (λ (z : ℤ). pos 24 ≤ℤ z) (sym g.credit) h.credit;

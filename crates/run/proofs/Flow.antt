@@ -62,26 +62,26 @@ module _ (limit : ℤ) where
     Above f [] = neg_ℤ credit ≤ℤ f
     Above f (e ∷ es) = (neg_ℤ credit ≤ℤ f) × Above (settle f e) es
 
-    pub above-head : (f : ℤ) (es : List Entry) → Above f es → neg_ℤ credit ≤ℤ f
-    above-head f [] a = a
-    above-head f (e ∷ es) a = a.0
+    pub above_head : (f : ℤ) (es : List Entry) → Above f es → neg_ℤ credit ≤ℤ f
+    above_head f [] a = a
+    above_head f (e ∷ es) a = a.0
 
-    pub above-append : (f : ℤ) (xs ys : List Entry) → Above f (xs ++ ys) → Above (flow f xs) ys
-    above-append f [] ys a = a
-    above-append f (e ∷ xs) ys a = above-append (settle f e) xs ys a.1
+    pub above_append : (f : ℤ) (xs ys : List Entry) → Above f (xs ++ ys) → Above (flow f xs) ys
+    above_append f [] ys a = a
+    above_append f (e ∷ xs) ys a = above_append (settle f e) xs ys a.1
 
     pub above_join : (f : ℤ) (xs ys : List Entry) → Above f xs → Above (flow f xs) ys → Above f (xs ++ ys)
     above_join f [] ys a b = b
     above_join f (e ∷ xs) ys a b = (a.0, above_join (settle f e) xs ys a.1 b)
 
-    pub above-end : (f : ℤ) (xs : List Entry) → Above f xs → neg_ℤ credit ≤ℤ flow f xs
-    above-end f [] a = a
-    above-end f (e ∷ xs) a = above-end (settle f e) xs a.1
+    pub above_end : (f : ℤ) (xs : List Entry) → Above f xs → neg_ℤ credit ≤ℤ flow f xs
+    above_end f [] a = a
+    above_end f (e ∷ xs) a = above_end (settle f e) xs a.1
 
     -- so that a stretch is charged no more than was there, what it brings, and a credit
-    pub stretch-charges : (f : ℤ) (before stretch after : List Entry) → f ≤ℤ limit → Above f (before ++ (stretch ++ after)) → charges stretch ≤ℤ (limit +ℤ credits stretch +ℤ credit)
-    stretch-charges f before stretch after h a =
+    pub stretch_charges : (f : ℤ) (before stretch after : List Entry) → f ≤ℤ limit → Above f (before ++ (stretch ++ after)) → charges stretch ≤ℤ (limit +ℤ credits stretch +ℤ credit)
+    stretch_charges f before stretch after h a =
         let full = flow_full f before h in
-        let low = above-head (flow (flow f before) stretch) after (above-append (flow f before) stretch after (above-append f before (stretch ++ after) a)) in
+        let low = above_head (flow (flow f before) stretch) after (above_append (flow f before) stretch after (above_append f before (stretch ++ after) a)) in
         let le = (least (flow f before) stretch).bound.0 in
         omega (arith, ints)

@@ -21,7 +21,7 @@ use Rattle.controller.specs.Performing.{entries_at}
 use Rattle.run.specs.Ledger.{History, Entry, ledger}
 use Rattle.run.specs.Answers.{State}
 use Rattle.run.specs.Laws.{Fullness, Charges, Numbers, Crossing, Meets, Laws, choices}
-use Rattle.run.proofs.Flow.{flow, least, stretch-charges}
+use Rattle.run.proofs.Flow.{flow, least, stretch_charges}
 use Rattle.run.proofs.Calls.{Stays, choice_made}
 use Rattle.run.proofs.Histories.{after_all, history, calls_of, answered, goes_past, above_past}
 
@@ -90,7 +90,7 @@ module _ {M O : Type 0} (count : M → ℕ → ℤ → ℕ) (trimmed : M → ℕ
 
   charge_law : Opened x.core → Charges x.core.profile.dropping x.core.reservoir whole
   charge_law o d past rest q k before stretch after e =
-      stretch-charges x.core.reservoir.limit x.core.reservoir.credit x.core.reservoir.fullness before stretch after o.full
+      stretch_charges x.core.reservoir.limit x.core.reservoir.credit x.core.reservoir.fullness before stretch after o.full
       (subst (λ (es : List Entry). Stays x.core es) e
       (above_past count trimmed next entries outlooks x cs past rest q (record { dropping = d; credit = o.credit; limit = o.limit; fullness = o.held }) k))
 

@@ -67,8 +67,8 @@ module _ (p : ℤ → ℤ) (total : ℤ) where
     low_next : (x : ℤ) → total <ℤ p x → Low (x +ℤ pos 1)
     low_next x m = let z : x ≡ x +ℤ pos 1 -ℤ pos 1 = omega (arith, ints) in inr (subst (λ (y : ℤ). total <ℤ p y) z m)
 
-    high-next : (x : ℤ) → p x <ℤ total → High (x -ℤ pos 1)
-    high-next x m = let z : x ≡ x -ℤ pos 1 +ℤ pos 1 = omega (arith, ints) in inr (subst (λ (y : ℤ). p y <ℤ total) z m)
+    high_next : (x : ℤ) → p x <ℤ total → High (x -ℤ pos 1)
+    high_next x m = let z : x ≡ x -ℤ pos 1 +ℤ pos 1 = omega (arith, ints) in inr (subst (λ (y : ℤ). p y <ℤ total) z m)
 
     pub ends : (lo hi : ℤ) → Low lo → High hi → hi ≤ℤ lo → lo ≤ℤ (hi +ℤ pos 1) → Crosses p total bottom top hi
     ends lo hi l h e n = record {
@@ -79,12 +79,12 @@ module _ (p : ℤ → ℤ) (total : ℤ) where
           (λ q. let z : lo ≡ hi = omega (arith, ints) in inr (inr (rw z at m)))) l;
     }
 
-    pub hunt-hits : (n : ℕ) (lo hi : ℤ) (k : ℕ) → Low lo → High hi → lo ≤ℤ (hi +ℤ pos 1) → (hi -ℤ lo +ℤ pos 1) <ℤ pos (2 ^ suc n) → Hits p total bottom top (hunt p total n lo hi k).base
-    hunt-hits zero lo hi k l h n w =
+    pub hunt_hits : (n : ℕ) (lo hi : ℤ) (k : ℕ) → Low lo → High hi → lo ≤ℤ (hi +ℤ pos 1) → (hi -ℤ lo +ℤ pos 1) <ℤ pos (2 ^ suc n) → Hits p total bottom top (hunt p total n lo hi k).base
+    hunt_hits zero lo hi k l h n w =
         let s : hi ≤ℤ lo = omega (arith, ints) in
         let e = mid_end lo hi s n in
         rw (hunt_end zero lo hi k s, e) (inr (ends lo hi l h s n))
-    hunt-hits (suc n) lo hi k l h near w =
+    hunt_hits (suc n) lo hi k l h near w =
         by_lt_z lo hi
         (λ s.
         let a = mid_low lo hi s in
@@ -92,10 +92,10 @@ module _ (p : ℤ → ℤ) (total : ℤ) where
         let v = half_is (lo +ℤ hi) in
         by_lt_z total (p (middle lo hi))
         (λ m. let q : Low (middle lo hi +ℤ pos 1) = low_next (middle lo hi) m in
-        rw (hunt_more n lo hi k s m) (hunt-hits n (middle lo hi +ℤ pos 1) hi (k + 1) q h (omega (arith, ints)) (halved (2 ^ suc n) (2 ^ suc (suc n)) (hi -ℤ lo +ℤ pos 1) _ (pow-succ' 2 (suc n)) (omega (arith, ints, v.0, v.1)) w)))
+        rw (hunt_more n lo hi k s m) (hunt_hits n (middle lo hi +ℤ pos 1) hi (k + 1) q h (omega (arith, ints)) (halved (2 ^ suc n) (2 ^ suc (suc n)) (hi -ℤ lo +ℤ pos 1) _ (pow-succ' 2 (suc n)) (omega (arith, ints, v.0, v.1)) w)))
         (λ m. by_lt_z (p (middle lo hi)) total
-        (λ m2. let q : High (middle lo hi -ℤ pos 1) = high-next (middle lo hi) m2 in
-        rw (hunt_less n lo hi k s m2) (hunt-hits n lo (middle lo hi -ℤ pos 1) (k + 1) l q (omega (arith, ints)) (halved (2 ^ suc n) (2 ^ suc (suc n)) (hi -ℤ lo +ℤ pos 1) _ (pow-succ' 2 (suc n)) (omega (arith, ints, v.0, v.1)) w)))
+        (λ m2. let q : High (middle lo hi -ℤ pos 1) = high_next (middle lo hi) m2 in
+        rw (hunt_less n lo hi k s m2) (hunt_hits n lo (middle lo hi -ℤ pos 1) (k + 1) l q (omega (arith, ints)) (halved (2 ^ suc n) (2 ^ suc (suc n)) (hi -ℤ lo +ℤ pos 1) _ (pow-succ' 2 (suc n)) (omega (arith, ints, v.0, v.1)) w)))
         (λ m2. let z : p (middle lo hi) ≡ total = omega (arith, ints) in rw (hunt_same n lo hi k s z) (inl z))))
         (λ s. let e = mid_end lo hi s near in rw (hunt_end (suc n) lo hi k s, e) (inr (ends lo hi l h s near)))
 
@@ -169,7 +169,7 @@ module _ (p : ℤ → ℤ) (total : ℤ) where
 
     -- what the contract says, of the definition
     pub found_hits : neg_ℤ (pos (2 ^ 60)) <ℤ bottom → top <ℤ pos (2 ^ 60) → bottom ≤ℤ top → (r : Found) → r ≡ hunt p total 60 bottom top 0 → Hits p total bottom top r.base
-    found_hits l h o r e = rw e (hunt-hits 60 bottom top 0 (inl (omega (arith, ints))) (inl (omega (arith, ints))) (omega (arith, ints)) (omega (arith, ints)))
+    found_hits l h o r e = rw e (hunt_hits 60 bottom top 0 (inl (omega (arith, ints))) (inl (omega (arith, ints))) (omega (arith, ints)) (omega (arith, ints)))
 
     pub found_few : (r : Found) → r ≡ hunt p total 60 bottom top 0 → r.tries ≤ 60
     found_few r e = rw e (omega (arith, hunt_tries 60 bottom top 0))
