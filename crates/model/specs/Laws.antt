@@ -79,13 +79,13 @@ ScaleAgrees =
     ≡ restarted (filter_at m k).follower (q24 (filter_at (curve_next m k b q t n) k).log_scale))
 
 -- the logs of a lesson from which nothing is held and whose scale is not cut: both logs from 0 to 32 doublings, the power nearer than 32 to 0, the scale at most 16
-pub record Unheld (log-bits pixels p : ℤ) : Type 0 where
-  pub bits_least : pos 0 ≤ℤ log-bits
-  pub bits_most : log-bits ≤ℤ pos (2 ^ 62)
+pub record Unheld (log_bits pixels p : ℤ) : Type 0 where
+  pub bits_least : pos 0 ≤ℤ log_bits
+  pub bits_most : log_bits ≤ℤ pos (2 ^ 62)
   pub pixels_least : pos 0 ≤ℤ pixels
   pub pixels_most : pixels ≤ℤ pos (2 ^ 62)
   pub power_in : unsigned_abs p < 2 ^ 62
-  pub scale_most : ((log-bits -ℤ pixels) +ℤ p) ≤ℤ pos (2 ^ 61)
+  pub scale_most : ((log_bits -ℤ pixels) +ℤ p) ≤ℤ pos (2 ^ 61)
 
 -- then the curve predicts, at the log quantizer of the lesson, the exponential of the logarithm of the bits seen
 abbrev pub SeenAgain : Type 0
