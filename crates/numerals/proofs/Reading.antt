@@ -54,5 +54,8 @@ past_end [] i l = refl
 past_end (w ∷ ws) zero l = absurd (omega (arith, l))
 past_end (w ∷ ws) (suc i) l = past_end ws i (omega (arith, l))
 
+pub texts_past : (ws : List (Bor (List ℕ))) (i : ℕ) → length ws ≤ i → get_or (texts ws) i [] ≡ []
+texts_past ws i l = past_end (texts ws) i (omega (arith, l, length_texts ws))
+
 pub unlike : (w v : List ℕ) → (w ≡ v → ⊥) → bytes_eq w v ≡ false
 unlike w v h = search (rules, bytes_eq-Decides w v)

@@ -2,6 +2,7 @@
 use Rattle.std.proofs.Common.{◌≡◌, ℕ, zero, suc, ◌+◌, ◌-◌, ◌<◌, ◌≤◌, Bool, true, false, eqb, List, [], ◌∷◌, ◌++◌, length, get_or, take, drop, Some, None, IsUtf8, Option, sym, refl, ap, ◌∙◌, subst, append_assoc, arith, Bor, rules, MatchOption}
 use native.Mathlib.Numerals.{unary_clauses}
 use Rattle.std.specs.Str.{IsValidUpTo, IsCharBoundary}
+use Rattle.std.specs.Char.{is_ascii_whitespace}
 use Rattle.std.proofs.lemmas.List.{length-drop, length-take, get_or-drop, get_or-take, take-take, take_more, drop_more, drop_all}
 use Rattle.std.proofs.lemmas.Str.{IsCharBoundary-start, IsCharBoundary-after_ascii, IsUtf8-nil, IsUtf8-take}
 use Rattle.std.proofs.lemmas.Bool.{both_ways, ltb-true, ltb-false}
@@ -34,6 +35,10 @@ front_of bs (Some x) h =
 pub texts_push : (ws : List (Bor (List ℕ))) (w : Bor (List ℕ)) → texts (ws ++ (w ∷ [])) ≡ texts ws ++ (w.now ∷ [])
 texts_push [] w = refl
 texts_push (v ∷ ws) w = ap (λ (r : List (List ℕ)). v.now ∷ r) (texts_push ws w)
+
+pub ended_some : (w : List ℕ) (ws : List (List ℕ)) → 0 < length w → ended w ws ≡ w ∷ ws
+ended_some [] ws l = absurd (omega (arith, l))
+ended_some (c ∷ cs) ws l = refl
 
 -- a piece that counts, and one that does not
 pub added_kept : (cut : Cut) (w : List ℕ) (start stop : ℕ) → length w ≡ stop - start → keeps cut start stop ≡ true → added cut w [] ≡ w ∷ []
@@ -74,6 +79,12 @@ cut_ascii Words c e = grind (arith, e)
 
 pub cut_parts : (cut : Cut) → Parts (added cut) (ends cut)
 cut_parts cut = record { before = cut_before cut; ascii = cut_ascii cut }
+
+pub words_parts : Parts ended is_ascii_whitespace
+words_parts = record { before = ended_before; ascii = cut_ascii Words }
+
+pub lines_parts : Parts (λ line later. line ∷ later) (λ c. eqb c 10)
+lines_parts = record { before = λ w ws. refl; ascii = cut_ascii Lines }
 
 module _ {add : List ℕ → List (List ℕ) → List (List ℕ)} {test : ℕ → Bool} (p : Parts add test) (bs : List ℕ) where
   going_on : (start i : ℕ) → start ≤ i → i < length bs → test (get_or bs i 0) ≡ false
