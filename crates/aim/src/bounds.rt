@@ -11,7 +11,8 @@ const LAST_INDEX: u8 = 255;
 // How far a base may lie from the previous frame's, in Q57: the log of 1.25.
 const REACH: i64 = 0xA4_D3C2_5E68_DC58;
 
-// A base log quantizer, and the log quantizer of the frame.
+// A base log quantizer, and the log quantizer of the frame. It has the fields of a flat quantizer, which stands for an
+// index alone: one type for both would say less of either.
 #[derive(Clone, Copy)]
 pub struct Aim {
     pub log_base_q: i64,
@@ -22,20 +23,14 @@ pub struct Aim {
 pub fn highest_of(highest: Option<u8>) -> u8
     ensures { result ≡ highest_of highest }
 {
-    match highest {
-        Some(index) => index,
-        None => LAST_INDEX,
-    }
+    highest.unwrap_or(LAST_INDEX)
 }
 
 // Whether a highest index is set.
 pub fn is_set(highest: Option<u8>) -> bool
     ensures { result ≡ set_of highest }
 {
-    match highest {
-        Some(_) => true,
-        None => false,
-    }
+    highest.is_some()
 }
 
 // A base within reach of the previous one.
@@ -52,10 +47,7 @@ fn within_reach(previous: i64, log_base_q: i64) -> i64
 pub fn near_previous(previous: Option<i64>, log_base_q: i64) -> i64
     ensures { result ≡ near previous log_base_q }
 {
-    match previous {
-        Some(p) => within_reach(p, log_base_q),
-        None => log_base_q,
-    }
+    previous.map_or(log_base_q, |previous| within_reach(previous, log_base_q))
 }
 
 impl Aim {
@@ -83,10 +75,10 @@ impl Aim {
     pub fn under_highest(self, highest: Option<u8>, depth: Depth, subtype: Subtype) -> Aim
         ensures { result ≡ under highest depth subtype self }
     {
-        match highest {
-            Some(index) => self.at_most(calc_flat_quantizer(index, depth, subtype)),
-            None => self,
-        }
+        highest.map_or(
+            self,
+            |index| self.at_most(calc_flat_quantizer(index, depth, subtype)),
+        )
     }
 
     // No lower than the lowest index stands for, if it is above 0.

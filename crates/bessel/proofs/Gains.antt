@@ -60,12 +60,12 @@ balance_of (negsuc n) (negsuc m) a h = omega (arith, ints)
 
 -- what is answered, s1 to s3, from the steps' numbers
 pub balanced_by : (a : ℕ) (b1 b2 r1 r2 s1 s2 s3 : ℤ) → r1 ≡ rounded b1 → b2 ≡ second a b1 → r2 ≡ rounded b2
-    → s1 ≡ r1 → s2 ≡ r2 → s3 ≡ pos ((a + 128) / 2 ^ 8) → Balanced (s1, s2, s3)
+    → s1 ≡ r1 → s2 ≡ r2 → s3 ≡ pos ((a + 128) / 2 ^ 8) → Balanced (record { c0 = s1; c1 = s2; g = s3 })
 balanced_by a b1 b2 r1 r2 s1 s2 s3 e1 e2 e3 e4 e5 e6 =
     rw (e4 ∙ e1, e5 ∙ e3, e6) (balance_of (b1 +ℤ pos (2 ^ 31)) (b2 +ℤ pos (2 ^ 31)) a (omega (arith, ints)))
 
 pub in_range_by : (a : ℕ) (r1 r2 s1 s2 s3 : ℤ) → a < 2 ^ 32 → nat_abs r1 ≤ 2 ^ 25 → nat_abs r2 ≤ 5 * 2 ^ 24
-    → s1 ≡ r1 → s2 ≡ r2 → s3 ≡ pos ((a + 128) / 2 ^ 8) → InRange (s1, s2, s3)
+    → s1 ≡ r1 → s2 ≡ r2 → s3 ≡ pos ((a + 128) / 2 ^ 8) → InRange (record { c0 = s1; c1 = s2; g = s3 })
 in_range_by a r1 r2 s1 s2 s3 h1 h2 h3 e1 e2 e3 = rw (e1, e2, e3) (h2, h3, omega (arith, ints))
 
 -- the parameters, step by step
@@ -73,6 +73,6 @@ pub parameters_by : (delay warp a : ℕ) (b1 b2 r1 r2 s1 s2 s3 : ℤ)
     → warp ≡ max (warped (2 ^ 24 / max delay 4)) 1 → a ≡ gain (3 * warp) (3 * warp * warp)
     → b1 ≡ first a (2 ^ 48 / (3 * warp * warp)) → r1 ≡ rounded b1 → b2 ≡ second a b1 → r2 ≡ rounded b2
     → s1 ≡ r1 → s2 ≡ r2 → s3 ≡ pos ((a + 128) / 2 ^ 8)
-    → (s1, s2, s3) ≡ parameters delay
+    → record { c0 = s1; c1 = s2; g = s3 } ≡ parameters delay
 unfolding parameters
 parameters_by delay warp a b1 b2 r1 r2 s1 s2 s3 e1 e2 e3 e4 e5 e6 e7 e8 e9 = cc

@@ -21,7 +21,10 @@ sum_in : (a b : ℤ) → nat_abs (a +ℤ b) ≤ nat_abs a + nat_abs b
 sum_in a b = omega (arith, ints)
 
 pub never_held : NeverHeld
-never_held x x0 x1 y0 y1 c0 c1 g h h0 h1 k0 k1 r =
+never_held x x0 x1 y0 y1 p h h0 h1 k0 k1 r =
+    let c0 = p.c0 in
+    let c1 = p.c1 in
+    let g = p.g in
     let t0 = times_in x0 (pos 2) (2 ^ 31) 2 h0 (omega arith) in
     let e0 : x0 ⊗ pos 2 ≡ x0 *ℤ pos 2 = held_as (x0 *ℤ pos 2) (omega arith) in
     let s0 = sum_in x (x0 *ℤ pos 2) in

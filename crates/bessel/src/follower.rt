@@ -4,13 +4,12 @@ ghost use Rattle.std.specs.Int.{int_wrap, w32};
 ghost use Rattle.logexp.specs.Held.{◌⊗◌};
 ghost use Rattle.bessel.specs.Follow.{standing, delayed, restarted, newest, inputs, weighed, smoothed, filtered};
 
-use crate::parameters::iir_bessel2_get_parameters;
+use crate::parameters::{Parameters, iir_bessel2_get_parameters};
 
-// A follower: its parameters in Q24, and its last two inputs and outputs, the newest first.
+// A follower: its parameters, and its last two inputs and outputs, the newest first.
 #[derive(Clone, Copy)]
 pub struct IIRBessel2 {
-    c: [i32; 2],
-    g: i32,
+    parameters: Parameters,
     x: [i32; 2],
     y: [i32; 2],
 }
@@ -39,12 +38,12 @@ fn product(a: i32, b: i32) -> i64
 }
 
 // The weighed sum of inputs and outputs in Q24, and a half.
-fn weighed(xs: i64, g: i32, y0: i32, c0: i32, y1: i32, c1: i32) -> i64
-    ensures { result ≡ weighed xs g y0 c0 y1 c1 }
+fn weighed(parameters: Parameters, xs: i64, y0: i32, y1: i32) -> i64
+    ensures { result ≡ weighed parameters xs y0 y1 }
 {
-    xs.saturating_mul(g as i64)
-        .saturating_add(product(y0, c0))
-        .saturating_add(product(y1, c1))
+    xs.saturating_mul(parameters.g as i64)
+        .saturating_add(product(y0, parameters.c0))
+        .saturating_add(product(y1, parameters.c1))
         .saturating_add(1 << 23)
 }
 
@@ -53,10 +52,8 @@ impl IIRBessel2 {
     pub fn new(delay: u32, value: i32) -> IIRBessel2
         ensures { result ≡ standing delay value }
     {
-        let (c0, c1, g) = iir_bessel2_get_parameters(delay);
         IIRBessel2 {
-            c: [c0, c1],
-            g,
+            parameters: iir_bessel2_get_parameters(delay),
             x: [value, value],
             y: [value, value],
         }
@@ -66,9 +63,7 @@ impl IIRBessel2 {
     pub fn reinit(&mut self, delay: u32)
         ensures { self.new ≡ delayed self.old delay }
     {
-        let (c0, c1, g) = iir_bessel2_get_parameters(delay);
-        self.c = [c0, c1];
-        self.g = g;
+        self.parameters = iir_bessel2_get_parameters(delay);
     }
 
     // Takes a value for all that went in and came out, and keeps the parameters.
@@ -92,12 +87,10 @@ impl IIRBessel2 {
         ensures { result ≡ smoothed self.now x }
     {
         let sum = weighed(
+            self.parameters,
             inputs(x, self.x[0], self.x[1]),
-            self.g,
             self.y[0],
-            self.c[0],
             self.y[1],
-            self.c[1],
         );
         low_bits(sum >> 24)
     }

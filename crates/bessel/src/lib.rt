@@ -10,5 +10,5 @@ mod tangent;
 
 pub use follower::IIRBessel2;
 pub use laws::{figures, sums_stand};
-pub use parameters::iir_bessel2_get_parameters;
+pub use parameters::{Parameters, iir_bessel2_get_parameters};
 pub use tangent::warp_alpha;

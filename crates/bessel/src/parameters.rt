@@ -5,6 +5,14 @@ ghost use Rattle.bessel.specs.Parameters.{divisor, gain, first, second, rounded,
 
 use crate::tangent::warp_alpha;
 
+// A follower's parameters in Q24: the weights of its last output and of the one before, and the gain of its inputs.
+#[derive(Clone, Copy, PartialEq, Eq, Debug)]
+pub struct Parameters {
+    pub c0: i32,
+    pub c1: i32,
+    pub g: i32,
+}
+
 // The shortest delay that has parameters; a shorter one takes these.
 const SHORTEST_DELAY: u32 = 4;
 
@@ -27,7 +35,8 @@ fn divisor(k1: u64, k2: u64) -> u64
     (((1 << 12) + k1) * (1 << 12) + k2 + 256) >> 9
 }
 
-// The gain k2 / (1 + k1 + k2) in Q32.
+// The gain k2 / (1 + k1 + k2) in Q32. Its bound stands in three contracts: a struct around one number that lives in one
+// function would be longer.
 fn gain(k1: u64, k2: u64) -> u64
     requires { (k1 < 2 ^ 19) × ((0 < k2) × (k2 < 2 ^ 36)) }
     ensures value { result ≡ gain k1 k2 }
@@ -65,10 +74,9 @@ fn rounded(b: i64) -> i32
     ((b + (1 << 31)) >> 32) as i32
 }
 
-// The follower's parameters for a delay, in Q24: the weights c[0] and c[1] of the last two outputs, and the
-// gain g of the inputs. A delay below 4 has those of 4. At every delay they stay in range, and the weights and
-// 4 gains make up 1 but for 3 units of rounding, so that a steady input is answered by itself.
-pub fn iir_bessel2_get_parameters(delay: u32) -> (i32, i32, i32)
+// The follower's parameters for a delay. A delay below 4 has those of 4. At every delay they stay in range, and the
+// weights and 4 gains make up 1 but for 3 units of rounding, so that a steady input is answered by itself.
+pub fn iir_bessel2_get_parameters(delay: u32) -> Parameters
     ensures value { result ≡ parameters delay }
     ensures range { InRange result }
     ensures balance { Balanced result }
@@ -78,9 +86,9 @@ pub fn iir_bessel2_get_parameters(delay: u32) -> (i32, i32, i32)
     let k2 = k1 * warp;
     let a = gain(k1, k2);
     let b1 = first_of(a, (1 << 48) / k2);
-    (
-        rounded(b1),
-        rounded(second_of(a, b1)),
-        ((a + 128) >> 8) as i32,
-    )
+    Parameters {
+        c0: rounded(b1),
+        c1: rounded(second_of(a, b1)),
+        g: ((a + 128) >> 8) as i32,
+    }
 }

@@ -31,7 +31,8 @@ pub struct Status {
     pub out: bool,
 }
 
-// The answer to a recorded call.
+// The answer to a recorded call. A refusal is a case here and no `Err`, since a history lists what each call was told,
+// refused or not.
 #[derive(Clone, Copy, PartialEq, Debug)]
 pub enum Answer {
     // To a choice: the number of its ticket, and its figures.

@@ -4,7 +4,8 @@
 pub const SEF_BITS: u32 = 24;
 
 // A call of a controller. A ticket stands here by its number, and an outlook by its place in a list of outlooks; a place
-// outside that list stands for an outlook with no entries.
+// outside that list stands for an outlook with no entries. Subtypes and places are plain numbers, bad ones too, since a
+// call is recorded as it was made, and its answer is what refuses it.
 #[derive(Clone, Copy)]
 pub enum Call {
     // A choice for a frame of a subtype (0 I, 1 P, 2 B0, 3 B1), with the base of the previous frame, if there is one.

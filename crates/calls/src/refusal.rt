@@ -19,12 +19,12 @@ pub enum Refusal {
     NoBits,
 }
 
-impl Refusal {
-    // The number that stands for the refusal in every interface.
-    pub fn number(self) -> u8
-        ensures { result ≡ number self }
-    {
-        match self {
+// The number that stands for the refusal in every interface.
+impl From<Refusal> for u8 {
+    ghost from_gives = { λ refusal n. n ≡ number refusal };
+
+    fn from(refusal: Refusal) -> u8 {
+        match refusal {
             Refusal::TicketOut => 11,
             Refusal::NoSuchSubtype => 12,
             Refusal::NoMoreFrames => 13,

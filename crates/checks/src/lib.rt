@@ -9,4 +9,6 @@ mod quantizers;
 #[cfg(test)]
 mod questions;
 #[cfg(test)]
+mod reading;
+#[cfg(test)]
 mod texts;

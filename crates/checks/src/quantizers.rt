@@ -1,14 +1,20 @@
 // The quantizer's refusals in their order, the ends of its tables, and its answers for whole frames.
-use flat::Subtype;
-use quantize::{QuantizerParameters, Refusal, Scales, ac_q, dc_q, select_ac_qi, select_dc_qi};
+use flat::{NoSuchSubtype, Subtype};
+use quantize::{Coefficient, QuantizerParameters, Refusal, Scales, q, select_qi};
 use std::process::Abort;
 use std::test::Fail;
 
 fn refuses_depth(rt: &impl Abort, depth: u8) {
-    assert_eq!(rt; ac_q(0, depth), Err(Refusal::NoSuchDepth));
-    assert_eq!(rt; dc_q(255, depth), Err(Refusal::NoSuchDepth));
-    assert_eq!(rt; select_ac_qi(4, depth), Err(Refusal::NoSuchDepth));
-    assert_eq!(rt; select_dc_qi(4, depth), Err(Refusal::NoSuchDepth));
+    assert_eq!(rt; q(Coefficient::Ac, 0, depth), Err(Refusal::NoSuchDepth));
+    assert_eq!(rt; q(Coefficient::Dc, 255, depth), Err(Refusal::NoSuchDepth));
+    assert_eq!(rt;
+        select_qi(Coefficient::Ac, 4, depth),
+        Err(Refusal::NoSuchDepth)
+    );
+    assert_eq!(rt;
+        select_qi(Coefficient::Dc, 4, depth),
+        Err(Refusal::NoSuchDepth)
+    );
     assert_eq!(rt; number(depth, 0), 4);
 }
 
@@ -16,7 +22,7 @@ fn refuses_depth(rt: &impl Abort, depth: u8) {
 fn number(depth: u8, sampling: u8) -> u8 {
     match QuantizerParameters::new_from_log_q(0, 0, depth, sampling, true, 0) {
         Ok(_) => 0,
-        Err(refusal) => refusal.number(),
+        Err(refusal) => refusal.into(),
     }
 }
 
@@ -43,15 +49,19 @@ fn samplings(rt: HostRuntime) {
 
 #[test]
 fn tables(rt: HostRuntime) {
-    assert_eq!(rt; ac_q(0, 8), Ok(4));
-    assert_eq!(rt; ac_q(255, 8), Ok(1828));
-    assert_eq!(rt; dc_q(255, 10), Ok(5347));
-    assert_eq!(rt; ac_q(255, 12), Ok(29247));
-    assert_eq!(rt; select_dc_qi(3, 8), Ok(0));
-    assert_eq!(rt; select_dc_qi(8, 8), Ok(1), "the lower of two equal entries");
-    assert_eq!(rt; select_dc_qi(86, 8), Ok(96));
-    assert_eq!(rt; select_ac_qi(i64::MIN, 8), Ok(0));
-    assert_eq!(rt; select_ac_qi(i64::MAX, 12), Ok(255));
+    assert_eq!(rt; q(Coefficient::Ac, 0, 8), Ok(4));
+    assert_eq!(rt; q(Coefficient::Ac, 255, 8), Ok(1828));
+    assert_eq!(rt; q(Coefficient::Dc, 255, 10), Ok(5347));
+    assert_eq!(rt; q(Coefficient::Ac, 255, 12), Ok(29247));
+    assert_eq!(rt; select_qi(Coefficient::Dc, 3, 8), Ok(0));
+    assert_eq!(rt;
+        select_qi(Coefficient::Dc, 8, 8),
+        Ok(1),
+        "the lower of two equal entries"
+    );
+    assert_eq!(rt; select_qi(Coefficient::Dc, 86, 8), Ok(96));
+    assert_eq!(rt; select_qi(Coefficient::Ac, i64::MIN, 8), Ok(0));
+    assert_eq!(rt; select_qi(Coefficient::Ac, i64::MAX, 12), Ok(255));
 }
 
 #[test]
@@ -73,8 +83,8 @@ fn frames(rt: HostRuntime) -> Result<(), Fail> {
 
 #[test]
 fn subtypes(rt: HostRuntime) {
-    assert_eq!(rt; Subtype::from_code(3), Some(Subtype::B1));
-    assert_eq!(rt; Subtype::from_code(4), None);
+    assert_eq!(rt; Subtype::try_from(3), Ok(Subtype::B1));
+    assert_eq!(rt; Subtype::try_from(4), Err(NoSuchSubtype));
     assert_eq!(rt; Subtype::P.log_q(2047), 0);
     assert_eq!(rt; Subtype::P.log_q(2048), 4096);
 }

@@ -1,5 +1,5 @@
 // What lines ask and are answered, as text: each fault of a line, each refusal, and the ends of operands.
-use queries::{answer_to, queries};
+use queries::{Outcome, answer_to, queries};
 use std::alloc::{AllocError, Global};
 use std::test::Fail;
 
@@ -10,8 +10,8 @@ fn told(heap: Global, bytes: &[u8]) -> Result<String, AllocError> {
         Ok(all) => {
             let mut text = String::new(heap);
             for query in all.as_slice() {
-                let answer = answer_to(*query);
-                text.push_str(format!(in heap; "{answer};")?.as_str())?;
+                let outcome = Outcome(answer_to(*query));
+                text.push_str(format!(in heap; "{outcome};")?.as_str())?;
             }
             Ok(text)
         }

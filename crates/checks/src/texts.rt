@@ -1,7 +1,7 @@
 // Lines, words and numbers of text: on both sides of every width, and where a text is cut.
 use std::alloc::{AllocError, Global};
 use std::test::Fail;
-use words::{i64_of, lines_of, mark_of, text_of, u8_of, u32_of, u64_of, words_of};
+use words::{FromWord, NotText, lines_of, text_of, words_of};
 
 const BYTES: [(&str, Option<u8>); 10] = [
     ("0", Some(0)),
@@ -28,21 +28,29 @@ const LOGS: [(&str, Option<i64>); 9] = [
     ("", None),
 ];
 
+// What a word writes, by the trait alone.
+fn written<T: FromWord>(word: &str) -> Option<T> {
+    T::from_word(word)
+}
+
 #[test]
 fn numbers(rt: HostRuntime) {
     for (word, want) in BYTES {
-        assert_eq!(rt; u8_of(word), want);
+        assert_eq!(rt; written(word), want);
     }
     for (word, want) in LOGS {
-        assert_eq!(rt; i64_of(word), want);
+        assert_eq!(rt; written(word), want);
     }
-    assert_eq!(rt; u32_of("4294967295"), Some(u32::MAX));
-    assert_eq!(rt; u32_of("4294967296"), None);
-    assert_eq!(rt; u64_of("18446744073709551615"), Some(u64::MAX));
-    assert_eq!(rt; u64_of("18446744073709551616"), None);
-    assert_eq!(rt; mark_of("0"), Some(false));
-    assert_eq!(rt; mark_of("1"), Some(true));
-    assert_eq!(rt; mark_of("01"), None);
+    assert_eq!(rt; written("4294967295"), Some(u32::MAX));
+    assert_eq!(rt; written::<u32>("4294967296"), None);
+    assert_eq!(rt; written("18446744073709551615"), Some(u64::MAX));
+    assert_eq!(rt; written::<u64>("18446744073709551616"), None);
+    assert_eq!(rt; written("0"), Some(false));
+    assert_eq!(rt; written("1"), Some(true));
+    assert_eq!(rt; written::<bool>("01"), None);
+    assert_eq!(rt; written::<Option<u8>>("-"), Some(None));
+    assert_eq!(rt; written("255"), Some(Some(255u8)));
+    assert_eq!(rt; written::<Option<u8>>("--"), None);
 }
 
 fn joined(heap: Global, line: &str) -> Result<String, AllocError> {
@@ -70,9 +78,12 @@ fn lines_and_words(rt: HostRuntime) -> Result<(), Fail> {
     }
     let lines = lines_of(rt.alloc(), "a\r\n\nb")?;
     assert_eq!(rt; lines.as_slice(), ["a\r", "", "b"].as_slice());
-    assert_eq!(rt; text_of(b""), ("", true));
-    assert_eq!(rt; text_of(b"a\r\n\xc3\xa9"), ("a\r\n\u{e9}", true));
-    assert_eq!(rt; text_of(b"a\nb\n# \xc3\nc"), ("a\nb\n", false));
-    assert_eq!(rt; text_of(b"a\xff"), ("", false));
+    assert_eq!(rt; text_of(b""), Ok(""));
+    assert_eq!(rt; text_of(b"a\r\n\xc3\xa9"), Ok("a\r\n\u{e9}"));
+    assert_eq!(rt;
+        text_of(b"a\nb\n# \xc3\nc"),
+        Err(NotText { before: "a\nb\n" })
+    );
+    assert_eq!(rt; text_of(b"a\xff"), Err(NotText { before: "" }));
     Ok(())
 }

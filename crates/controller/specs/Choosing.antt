@@ -1,5 +1,7 @@
 -- A choice: what it counts, what it has to share, the base that it finds, and the quantizer that follows.
 use Rattle.std.specs.Prelude.{ℕ, ◌≤◌, Bool, true, false, cond, List, ℤ, Some, None, Ok, Err, Option, Result, ◌==◌, nat_lt}
+use Rattle.model.specs.Meaning.{Meaning}
+use Rattle.model.specs.declared.room.Room.{Room}
 use Rattle.flat.specs.declared.subtype.Subtype.{Subtype}
 use Rattle.flat.specs.Flat.{ac_log, code_of, log_q_of, subtype_of_code}
 use Rattle.quantize.specs.Answer.{parameters_of, Lawful}
@@ -34,21 +36,27 @@ bottom s = ac_log s.profile.lowest s.profile.depth
 unfoldable pub top : Core → ℤ
 top s = ac_log (highest_of s.profile.highest) s.profile.depth
 
+-- the room that the next frame has in the reservoir
+abbrev pub room_of : Core → Room
+room_of s = record {
+  fullness = s.reservoir.fullness;
+  credit = s.reservoir.credit;
+  limit = s.reservoir.limit;
+  highest = set_of s.profile.highest;
+}
+
 -- is no ticket out? is the subtype 0 to 3? The number of the first no, or 0
 abbrev pub choose_question : Core → ℕ → ℕ
 choose_question s k = cond (any_out s.out) 11 (cond (nat_lt k 4) 0 12)
 
-module _ {M : Type 0} (count : M → ℕ → ℤ → ℕ) (trimmed : M → ℕ → ℤ → ℤ → ℤ → ℤ → Bool → ℤ) (s : Core) (m : M) where
+module _ {M : Type 0} (meaning : Meaning M) (s : Core) (m : M) where
   -- what the search finds for a total
   unfoldable pub found_for : Counts → ℤ → Found
-  found_for a t = hunt (forecast count m a.kinds) t 60 (bottom s) (top s) 0
+  found_for a t = hunt (forecast meaning m a.kinds) t 60 (bottom s) (top s) 0
 
   -- the base near the previous one, and its log quantizer as the model trims it
   abbrev pub trimmed_aim : Subtype → ℤ → Aim
-  trimmed_aim k b = record {
-    log_base_q = b;
-    log_q = trimmed m (code_of k) (log_q_of k b) s.reservoir.fullness s.reservoir.credit s.reservoir.limit (set_of s.profile.highest);
-  }
+  trimmed_aim k b = record { log_base_q = b; log_q = meaning.trimmed m (code_of k) (log_q_of k b) (room_of s) }
 
   -- base and log quantizer, once the highest and then the lowest index were seen to
   unfoldable pub aimed : Subtype → Option ℤ → ℤ → Aim
@@ -86,11 +94,6 @@ module _ {M : Type 0} (count : M → ℕ → ℤ → ℕ) (trimmed : M → ℕ �
 abbrev pub issued : Core → Result Decision Refusal → Result Choice Refusal
 issued s (Ok d) = Ok (record { ticket = record { number = next_number s; spent = false }; decision = d })
 issued s (Err e) = Err e
-
--- what holds of the figures of an accepted choice
-abbrev pub OfAccepted : Result Choice Refusal → (Decision → Type 0) → Type 0
-OfAccepted (Ok c) P = P c.decision
-OfAccepted (Err e) P = Unit {0}
 
 -- the found base predicts the total or lies where the predictions cross it, after at most 60 tries, and the indexes and scales are lawful
 pub record Decides (predicts : ℤ → ℤ) (s : Core) (d : Decision) : Type 0 where

@@ -1,5 +1,6 @@
 -- A recorded call: what it answers, and the core and the model that it leaves.
-use Rattle.std.specs.Prelude.{ℕ, zero, suc, Bool, List, [], ◌∷◌, ℤ, Ok, Err, Result}
+use Rattle.std.specs.Prelude.{ℕ, zero, suc, List, [], ◌∷◌, Ok, Err, Result}
+use Rattle.model.specs.Meaning.{Meaning}
 use Rattle.calls.specs.declared.answer.Decision.{Decision}
 use Rattle.calls.specs.declared.answer.Reported.{Reported}
 use Rattle.calls.specs.declared.answer.Answer.{Answer}
@@ -38,21 +39,21 @@ abbrev pub of_show : Result (Unit {0}) Refusal → Answer
 of_show (Ok _) = Shown
 of_show (Err e) = Refused e
 
-module _ {M O : Type 0} (count : M → ℕ → ℤ → ℕ) (trimmed : M → ℕ → ℤ → ℤ → ℤ → ℤ → Bool → ℤ) (next : M → ℕ → ℕ → ℤ → Bool → ℕ → M) (entries : O → List ℕ) (outlooks : List O) where
+module _ {M O : Type 0} (meaning : Meaning M) (entries : O → List ℕ) (outlooks : List O) where
   -- the answer to a call
   abbrev pub answer_to : Core → M → Call → Answer
-  answer_to s m (Choose k i previous mean) = of_choose (next_number s) (choose_after count trimmed s m (entries_at entries outlooks i) k previous mean).answer
-  answer_to s m (Trial n bits) = of_trial (trial_after next s m n bits).answer
-  answer_to s m (Report n bits shown droppable) = of_report (report_after count next s m n bits shown droppable).answer
+  answer_to s m (Choose k i previous mean) = of_choose (next_number s) (choose_after meaning s m (entries_at entries outlooks i) k previous mean).answer
+  answer_to s m (Trial n bits) = of_trial (trial_after meaning s m n bits).answer
+  answer_to s m (Report n bits shown droppable) = of_report (report_after meaning s m n bits shown droppable).answer
   answer_to s m (Withdraw n) = Withdrawn
   answer_to s m Show = of_show (show_after s m).answer
   answer_to s m Status = Told (status_of s)
 
   -- the core after a call
   abbrev pub core_after : Core → M → Call → Core
-  core_after s m (Choose k i previous mean) = (choose_after count trimmed s m (entries_at entries outlooks i) k previous mean).core
-  core_after s m (Trial n bits) = (trial_after next s m n bits).core
-  core_after s m (Report n bits shown droppable) = (report_after count next s m n bits shown droppable).core
+  core_after s m (Choose k i previous mean) = (choose_after meaning s m (entries_at entries outlooks i) k previous mean).core
+  core_after s m (Trial n bits) = (trial_after meaning s m n bits).core
+  core_after s m (Report n bits shown droppable) = (report_after meaning s m n bits shown droppable).core
   core_after s m (Withdraw n) = withdrawn_core s n
   core_after s m Show = (show_after s m).core
   core_after s m Status = s
@@ -60,8 +61,8 @@ module _ {M O : Type 0} (count : M → ℕ → ℤ → ℕ) (trimmed : M → ℕ
   -- the model after a call: only trials and reports teach
   abbrev pub model_after : Core → M → Call → M
   model_after s m (Choose k i previous mean) = m
-  model_after s m (Trial n bits) = (trial_after next s m n bits).model
-  model_after s m (Report n bits shown droppable) = (report_after count next s m n bits shown droppable).model
+  model_after s m (Trial n bits) = (trial_after meaning s m n bits).model
+  model_after s m (Report n bits shown droppable) = (report_after meaning s m n bits shown droppable).model
   model_after s m (Withdraw n) = m
   model_after s m Show = m
   model_after s m Status = m

@@ -1,5 +1,7 @@
 -- Trials, reports, shows, withdrawals and the status.
 use Rattle.std.specs.Prelude.{ℕ, Bool, true, false, cond, ℤ, pos, Some, None, Ok, Option, ◌==◌, slice_index}
+use Rattle.model.specs.Meaning.{Meaning}
+use Rattle.model.specs.declared.lesson.Lesson.{Lesson}
 use Rattle.flat.specs.Flat.{code_of}
 use Rattle.flat.specs.declared.subtype.Subtype.{Subtype}
 use Rattle.calls.specs.declared.answer.Reported.{Reported}
@@ -13,6 +15,16 @@ use Rattle.controller.specs.After.{After, refused, any_out, frame_of, has_room, 
 -- the accepted reports of a subtype
 abbrev pub reports_of : Core → Subtype → ℕ
 reports_of s k = slice_index s.reports (code_of k)
+
+-- what the bits of a frame teach, in a trial or not
+abbrev pub lesson_of : Core → Frame → ℕ → Bool → Lesson
+lesson_of s f bits trial = record {
+  subtype = code_of f.subtype;
+  bits = bits;
+  log_q = f.log_q;
+  trial = trial;
+  reports = reports_of s f.subtype;
+}
 
 -- ---- the questions: the number of the first no, or 0
 
@@ -38,14 +50,14 @@ show_question s = cond (any_out s.out) 11 (cond (has_room s) 0 13)
 
 -- ---- what the calls leave and answer
 
-module _ {M : Type 0} (count : M → ℕ → ℤ → ℕ) (next : M → ℕ → ℕ → ℤ → Bool → ℕ → M) (s : Core) (m : M) where
+module _ {M : Type 0} (meaning : Meaning M) (s : Core) (m : M) where
   -- what the model predicted of a frame
   abbrev pub predicted : Frame → ℤ
-  predicted f = pos (count m (code_of f.subtype) f.log_q)
+  predicted f = pos (meaning.count m (code_of f.subtype) f.log_q)
 
   -- the model after a lesson of a frame; bits of 0 teach nothing
   abbrev pub taught : Frame → ℕ → Bool → M
-  taught f bits trial = cond (bits == 0) m (next m (code_of f.subtype) bits f.log_q trial (reports_of s f.subtype))
+  taught f bits trial = cond (bits == 0) m (meaning.next m (lesson_of s f bits trial))
 
   -- a report is predicted by the model as it was, learned from, and charged
   abbrev pub report_on : Option Frame → Bool → ℕ → Bool → Bool → After M Reported
@@ -60,14 +72,13 @@ module _ {M : Type 0} (count : M → ℕ → ℤ → ℕ) (next : M → ℕ → 
   abbrev pub report_after : ℕ → ℕ → Bool → Bool → After M Reported
   report_after n bits shown droppable = report_on (frame_of s n) (has_room s) bits shown droppable
 
-module _ {M : Type 0} (next : M → ℕ → ℕ → ℤ → Bool → ℕ → M) (s : Core) (m : M) where
   -- the questions of a trial of a frame, in their order, after that of its ticket
   abbrev pub trial_of : Frame → Bool → Bool → ℕ → After M (Unit {0})
   trial_of f false none bits = refused s m NoTrialDue
   trial_of f true true bits = refused s m NoBits
   trial_of f true false bits = record {
     core = cleared_core s;
-    model = next m (code_of f.subtype) bits f.log_q true (reports_of s f.subtype);
+    model = meaning.next m (lesson_of s f bits true);
     answer = Ok tt;
   }
 

@@ -30,6 +30,7 @@ fn capped(limit: i64, left: i64, gain: i64) -> i64
     limit.min(left + gain)
 }
 
+// A reservoir is a plain record, as its core is, so what a sum needs stands in contracts, of a gain too.
 impl Reservoir {
     // Whether bits exceed fullness and one credit.
     fn exceeded_by(&self, bits: u32) -> bool
@@ -87,7 +88,7 @@ fn coded_by(bits: u32) -> u32
     ensures value { result ≡ (if nat_eq bits 0 then 0 else 1) }
     ensures bound { result ≤ 1 }
 {
-    if bits == 0 { 0 } else { 1 }
+    u32::from(bits > 0)
 }
 
 // What the model predicted, where there are bits.
@@ -137,7 +138,7 @@ impl Core {
             .saturating_add(surplus(predicted, bits, charge));
         self.accepted += 1;
         self.coded += coded_by(bits);
-        self.reports[subtype.code() as usize] += 1;
+        self.reports[u8::from(subtype) as usize] += 1;
         self.out = None;
         Reported { charge, dropped }
     }

@@ -1,10 +1,10 @@
 // Choosing a quantizer.
-ghost use Rattle.std.specs.Prelude.{◌≡◌, ℕ, ◌≤◌, ℤ};
+ghost use Rattle.std.specs.Prelude.{◌≡◌, ℕ, ◌≤◌, ℤ, IfOk};
 ghost use Rattle.search.specs.Predict.{forecast};
 ghost use Rattle.search.specs.Hunt.{Hits};
 ghost use Rattle.controller.specs.Soundness.{Sound};
 ghost use Rattle.controller.specs.After.{any_out, next_number, chosen_core, told};
-ghost use Rattle.controller.specs.Choosing.{ahead, bottom, top, total, found_for, aimed, decision, choose_question, choose_after, issued, OfAccepted, Decides};
+ghost use Rattle.controller.specs.Choosing.{ahead, bottom, top, total, found_for, aimed, decision, choose_question, choose_after, room_of, issued, Decides};
 
 use crate::controller::Controller;
 use crate::state::{Core, Frame};
@@ -12,7 +12,7 @@ use crate::ticket::{Choice, Ticket};
 use aim::{Aim, highest_of, is_set, near_previous, rate_total};
 use calls::{Decision, Refusal};
 use flat::Subtype;
-use model::BitModel;
+use model::{BitModel, Room};
 use outlook::{Counts, Outlook};
 use quantize::QuantizerParameters;
 use search::{Ends, Found, search};
@@ -22,10 +22,7 @@ impl Core {
     pub(crate) fn any_out(&self) -> bool
         ensures { result ≡ any_out self.now.out }
     {
-        match self.out {
-            Some(_) => true,
-            None => false,
-        }
+        self.out.is_some()
     }
 
     // Counts one more choice, whose ticket is out for a frame: the number of that ticket.
@@ -39,6 +36,19 @@ impl Core {
         self.choices = number;
         self.out = Some(frame);
         number
+    }
+
+    // The room that the next frame has in the reservoir.
+    fn room(&self) -> Room
+        ensures { result ≡ room_of self.now }
+    {
+        let r = self.reservoir;
+        Room {
+            fullness: r.fullness,
+            credit: r.credit,
+            limit: r.limit,
+            highest: is_set(self.profile.highest),
+        }
     }
 
     // The bits that the frames ahead have to share.
@@ -60,9 +70,9 @@ impl Core {
 impl<M: BitModel> Controller<M> {
     // The base that the search finds for a total.
     fn look(&self, counts: &Counts, total: i64) -> Found
-        ensures exact { result ≡ found_for M.BitModel.count M.BitModel.trimmed self.now.core self.now.model counts.now total }
+        ensures exact { result ≡ found_for M.meaning self.now.core self.now.model counts.now total }
         ensures few { result.tries ≤ 60 }
-        ensures hits { Hits (forecast M.BitModel.count self.now.model counts.now.kinds) total (bottom self.now.core) (top self.now.core) result.base }
+        ensures hits { Hits (forecast M.meaning self.now.model counts.now.kinds) total (bottom self.now.core) (top self.now.core) result.base }
     {
         let p = self.core.profile;
         let ends = Ends::between(p.lowest, highest_of(p.highest), p.depth);
@@ -72,18 +82,14 @@ impl<M: BitModel> Controller<M> {
     // Base and log quantizer of a frame from the base found: near the previous one, trimmed by the model, and between the
     // highest and the lowest index.
     fn aim(&self, subtype: Subtype, previous: Option<i64>, found: i64) -> Aim
-        ensures { result ≡ aimed M.BitModel.count M.BitModel.trimmed self.now.core self.now.model subtype previous found }
+        ensures { result ≡ aimed M.meaning self.now.core self.now.model subtype previous found }
     {
         let p = self.core.profile;
-        let r = self.core.reservoir;
         let log_base_q = near_previous(previous, found);
         let log_q = self.model.trim(
-            subtype.code(),
+            u8::from(subtype),
             subtype.log_q(log_base_q),
-            r.fullness,
-            r.credit,
-            r.limit,
-            is_set(p.highest),
+            self.core.room(),
         );
         let below = Aim { log_base_q, log_q }.under_highest(p.highest, p.depth, subtype);
         below.over_lowest(p.lowest, p.depth, subtype)
@@ -97,14 +103,14 @@ impl<M: BitModel> Controller<M> {
         previous: Option<i64>,
         mean: i64,
     ) -> Decision
-        ensures exact { result ≡ decision M.BitModel.count M.BitModel.trimmed self.now.core self.now.model counts.now subtype previous mean }
-        ensures decides { Decides (forecast M.BitModel.count self.now.model counts.now.kinds) self.now.core result }
+        ensures exact { result ≡ decision M.meaning self.now.core self.now.model counts.now subtype previous mean }
+        ensures decides { Decides (forecast M.meaning self.now.model counts.now.kinds) self.now.core result }
     {
         let p = self.core.profile;
         let total = self.core.total(counts);
         let found = self.look(counts, total);
         let aim = self.aim(subtype, previous, found.base);
-        let intra = subtype.code() == 0;
+        let intra = subtype == Subtype::I;
         let quantizer = QuantizerParameters::of(
             aim.log_base_q,
             aim.log_q,
@@ -132,15 +138,16 @@ impl<M: BitModel> Controller<M> {
         log_isqrt_mean_scale: i64,
     ) -> Result<Choice, Refusal>
         ensures number { told result ≡ choose_question self.old.core subtype }
-        ensures answer { result ≡ issued self.old.core (choose_after M.BitModel.count M.BitModel.trimmed self.old.core self.old.model (O.Outlook.entries outlook.now) subtype previous log_isqrt_mean_scale).answer }
-        ensures core { self.new.core ≡ (choose_after M.BitModel.count M.BitModel.trimmed self.old.core self.old.model (O.Outlook.entries outlook.now) subtype previous log_isqrt_mean_scale).core }
+        ensures answer { result ≡ issued self.old.core (choose_after M.meaning self.old.core self.old.model (O.entries outlook.now) subtype previous log_isqrt_mean_scale).answer }
+        ensures core { self.new.core ≡ (choose_after M.meaning self.old.core self.old.model (O.entries outlook.now) subtype previous log_isqrt_mean_scale).core }
         ensures model { self.new.model ≡ self.old.model }
-        ensures decides { OfAccepted result (Decides (forecast M.BitModel.count self.old.model (ahead self.old.core (O.Outlook.entries outlook.now)).kinds) self.old.core) }
+        ensures decides { IfOk result (λ c. Decides (forecast M.meaning self.old.model (ahead self.old.core (O.entries outlook.now)).kinds) self.old.core c.decision) }
     {
         if self.core.any_out() {
             return Err(Refusal::TicketOut);
         }
-        let Some(kind) = Subtype::from_code(subtype) else {
+        // `calls` knows no subtypes, so the refusal is named here.
+        let Ok(kind) = Subtype::try_from(subtype) else {
             return Err(Refusal::NoSuchSubtype);
         };
         let counts = outlook.count(self.core.profile.delay);

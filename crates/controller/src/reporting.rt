@@ -2,14 +2,14 @@
 ghost use Rattle.std.specs.Prelude.{◌≡◌, ℕ, ◌≤◌};
 ghost use Rattle.calls.specs.declared.refusal.Refusal.{Refusal as Reason};
 ghost use Rattle.controller.specs.After.{any_out, frame_of, has_room, cleared_core, handed, told, told_back};
-ghost use Rattle.controller.specs.Reporting.{reports_of, taught, report_question, report_after, trial_question, trial_after, show_question, show_after, withdrawn_core, status_of};
+ghost use Rattle.controller.specs.Reporting.{reports_of, lesson_of, taught, report_question, report_after, trial_question, trial_after, show_question, show_after, withdrawn_core, status_of};
 
 use crate::controller::Controller;
 use crate::state::{Core, Frame};
 use crate::ticket::{Ticket, Unspent};
 use calls::{Refusal, Reported, Status};
 use flat::Subtype;
-use model::BitModel;
+use model::{BitModel, Lesson};
 
 // How many reports and shows are accepted at most.
 const FRAMES_MOST: u32 = 1 << 30;
@@ -37,7 +37,20 @@ impl Core {
     fn reports_of(&self, subtype: Subtype) -> u32
         ensures { result ≡ reports_of self.now subtype }
     {
-        self.reports[subtype.code() as usize]
+        self.reports[u8::from(subtype) as usize]
+    }
+
+    // What the bits of a frame teach, in a trial or not.
+    fn lesson(&self, frame: Frame, bits: u32, trial: bool) -> Lesson
+        ensures { result ≡ lesson_of self.now frame bits trial }
+    {
+        Lesson {
+            subtype: u8::from(frame.subtype),
+            bits,
+            log_q: frame.log_q,
+            trial,
+            reports: self.reports_of(frame.subtype),
+        }
     }
 }
 
@@ -45,12 +58,10 @@ impl<M: BitModel> Controller<M> {
     // Teaches the model a frame that used bits; bits of 0 teach nothing.
     fn teach(&mut self, frame: Frame, bits: u32, trial: bool)
         ensures core { self.new.core ≡ self.old.core }
-        ensures model { self.new.model ≡ taught M.BitModel.count M.BitModel.next self.old.core self.old.model frame bits trial }
+        ensures model { self.new.model ≡ taught M.meaning self.old.core self.old.model frame bits trial }
     {
         if bits > 0 {
-            let reports = self.core.reports_of(frame.subtype);
-            self.model
-                .learn(frame.subtype.code(), bits, frame.log_q, trial, reports);
+            self.model.learn(self.core.lesson(frame, bits, trial));
         }
     }
 
@@ -58,27 +69,18 @@ impl<M: BitModel> Controller<M> {
     // this is not the ticket that is out (21), the subtype has an accepted report (23), no bits (24).
     pub fn trial(&mut self, ticket: Ticket, bits: u32) -> Result<(), Unspent>
         ensures number { told_back result ≡ trial_question self.old.core ticket.number bits }
-        ensures answer { result ≡ handed ticket (trial_after M.BitModel.next self.old.core self.old.model ticket.number bits).answer }
-        ensures core { self.new.core ≡ (trial_after M.BitModel.next self.old.core self.old.model ticket.number bits).core }
-        ensures model { self.new.model ≡ (trial_after M.BitModel.next self.old.core self.old.model ticket.number bits).model }
+        ensures answer { result ≡ handed ticket (trial_after M.meaning self.old.core self.old.model ticket.number bits).answer }
+        ensures core { self.new.core ≡ (trial_after M.meaning self.old.core self.old.model ticket.number bits).core }
+        ensures model { self.new.model ≡ (trial_after M.meaning self.old.core self.old.model ticket.number bits).model }
     {
         let Some(frame) = self.core.frame_of(ticket.number()) else {
-            return Err(Unspent {
-                refusal: Refusal::NotThatTicket,
-                ticket,
-            });
+            return Err(ticket.back(Refusal::NotThatTicket));
         };
         if self.core.reports_of(frame.subtype) != 0 {
-            return Err(Unspent {
-                refusal: Refusal::NoTrialDue,
-                ticket,
-            });
+            return Err(ticket.back(Refusal::NoTrialDue));
         }
         if bits == 0 {
-            return Err(Unspent {
-                refusal: Refusal::NoBits,
-                ticket,
-            });
+            return Err(ticket.back(Refusal::NoBits));
         }
         ticket.spend();
         self.teach(frame, bits, true);
@@ -89,7 +91,8 @@ impl<M: BitModel> Controller<M> {
     // Takes the bits of a frame that was coded: the model predicts and then learns, the frame may be dropped, the
     // reservoir is charged, credited if the frame is shown, and capped, and the bias gains predicted less charged.
     // Refused, and the ticket comes back: this is not the ticket that is out (21), 2^30 reports and shows have been
-    // accepted (13).
+    // accepted (13). Bits and marks are operands of their own, as the rules name them one by one: a struct of the three
+    // would be taken apart again in each definition, and so be no plainer.
     pub fn report(
         &mut self,
         ticket: Ticket,
@@ -98,24 +101,18 @@ impl<M: BitModel> Controller<M> {
         droppable: bool,
     ) -> Result<Reported, Unspent>
         ensures number { told_back result ≡ report_question self.old.core ticket.number }
-        ensures answer { result ≡ handed ticket (report_after M.BitModel.count M.BitModel.next self.old.core self.old.model ticket.number bits shown droppable).answer }
-        ensures core { self.new.core ≡ (report_after M.BitModel.count M.BitModel.next self.old.core self.old.model ticket.number bits shown droppable).core }
-        ensures model { self.new.model ≡ (report_after M.BitModel.count M.BitModel.next self.old.core self.old.model ticket.number bits shown droppable).model }
+        ensures answer { result ≡ handed ticket (report_after M.meaning self.old.core self.old.model ticket.number bits shown droppable).answer }
+        ensures core { self.new.core ≡ (report_after M.meaning self.old.core self.old.model ticket.number bits shown droppable).core }
+        ensures model { self.new.model ≡ (report_after M.meaning self.old.core self.old.model ticket.number bits shown droppable).model }
     {
         let Some(frame) = self.core.frame_of(ticket.number()) else {
-            return Err(Unspent {
-                refusal: Refusal::NotThatTicket,
-                ticket,
-            });
+            return Err(ticket.back(Refusal::NotThatTicket));
         };
         if !self.core.has_room() {
-            return Err(Unspent {
-                refusal: Refusal::NoMoreFrames,
-                ticket,
-            });
+            return Err(ticket.back(Refusal::NoMoreFrames));
         }
         ticket.spend();
-        let predicted = self.model.predict(frame.subtype.code(), frame.log_q);
+        let predicted = self.model.predict(u8::from(frame.subtype), frame.log_q);
         self.teach(frame, bits, false);
         Ok(
             self.core
@@ -146,7 +143,7 @@ impl<M: BitModel> Controller<M> {
         ensures core { self.new.core ≡ withdrawn_core self.old.core ticket.number }
         ensures model { self.new.model ≡ self.old.model }
     {
-        if let Some(_) = self.core.frame_of(ticket.number()) {
+        if self.core.frame_of(ticket.number()).is_some() {
             self.core.out = None;
         }
         ticket.spend();

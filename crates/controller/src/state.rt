@@ -32,9 +32,10 @@ pub struct Frame {
     pub log_q: i64,
 }
 
-// All of a controller but its model. `accepted` counts reports and shows, `coded` the reports of 1 bit or more, `reports`
-// the reports of each subtype, `choices` the choices modulo 2^64; `out` is the frame of the last choice while its ticket
-// is out.
+// All of a controller but its model: a plain record, as the rules speak of a controller by its core. What always holds
+// of a core is a fact of the controller's type, and the private steps on a core or a reservoir ask for it. `accepted`
+// counts reports and shows, `coded` the reports of 1 bit or more, `reports` the reports of each subtype, `choices` the
+// choices modulo 2^64; `out` is the frame of the last choice while its ticket is out.
 #[derive(Clone, Copy)]
 pub struct Core {
     pub profile: Profile,

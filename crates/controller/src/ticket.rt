@@ -4,7 +4,7 @@ ghost use Rattle.std.specs.Prelude.{◌≡◌, true, false};
 use calls::{Decision, Refusal};
 
 // The ticket of one choice, with the number of that choice. It must end in a trial, a report or a withdrawal: letting it
-// go otherwise is refused by the check.
+// go otherwise is refused by the check. The mark is for that alone: only a spent ticket may be dropped.
 pub struct Ticket {
     number: u64,
     spent: bool,
@@ -43,6 +43,16 @@ impl Ticket {
     pub(crate) fn spend(mut self) {
         self.spent = true;
     }
+
+    // The ticket as it comes back from a call that was refused.
+    pub(crate) fn back(self, refusal: Refusal) -> Unspent
+        ensures { result ≡ record { refusal = refusal; ticket = self } }
+    {
+        Unspent {
+            refusal,
+            ticket: self,
+        }
+    }
 }
 
 // An accepted choice: its ticket, and its figures.
@@ -57,4 +67,15 @@ pub struct Choice {
 pub struct Unspent {
     pub refusal: Refusal,
     pub ticket: Ticket,
+}
+
+impl Unspent {
+    // Ends the ticket: why the call was refused.
+    pub(crate) fn spend(self) -> Refusal
+        ensures { result ≡ self.refusal }
+    {
+        let Unspent { refusal, ticket } = self;
+        ticket.spend();
+        refusal
+    }
 }

@@ -1,10 +1,10 @@
 // Choices: ends of their operands, a single index, monochrome, and models and outlooks at their extremes.
-use crate::setting::{opened, small};
+use crate::setting::{NONE, choice, opened, small};
 use calls::{Answer, Call, Decision};
 use controller::Controller;
 use flat::ac_log;
 use model::Settings;
-use outlook::{List, NothingAhead, Outlook, Pattern};
+use outlook::{List, Outlook, Pattern};
 use quantize::Scales;
 use stair::Stair;
 use std::test::Fail;
@@ -12,8 +12,6 @@ use tables::Depth;
 
 // How far a base may lie from the previous frame's.
 const REACH: i64 = 0xA4_D3C2_5E68_DC58;
-
-const NONE: [NothingAhead; 0] = [];
 
 // The figures of a choice, whose ticket is withdrawn again.
 fn chosen<O: Outlook>(
@@ -23,13 +21,7 @@ fn chosen<O: Outlook>(
     previous: Option<i64>,
     mean: i64,
 ) -> Result<Decision, Fail> {
-    let call = Call::Choose {
-        subtype,
-        outlook: 0,
-        previous,
-        log_isqrt_mean_scale: mean,
-    };
-    match controller.perform(outlooks, call) {
+    match controller.perform(outlooks, choice(subtype, previous, mean)) {
         Answer::Chosen { ticket, decision } => {
             let _ = controller.perform(outlooks, Call::Withdraw { ticket });
             Ok(decision)

@@ -1,12 +1,9 @@
 // Reports and shows: charges, credits, the cap, the bias, and frames that are dropped.
-use crate::setting::{opened, small};
-use calls::{Answer, Call, Refusal, Reported};
+use crate::setting::{NONE, choice, opened, report, small};
+use calls::{Answer, Call, Reported};
 use controller::Controller;
-use outlook::NothingAhead;
 use stair::Stair;
 use std::test::Fail;
-
-const NONE: [NothingAhead; 0] = [];
 
 // A choice and its report, which has the number of that choice.
 fn coded(
@@ -16,24 +13,8 @@ fn coded(
     shown: bool,
     droppable: bool,
 ) -> Answer {
-    let _ = controller.perform(
-        &NONE,
-        Call::Choose {
-            subtype: 1,
-            outlook: 0,
-            previous: None,
-            log_isqrt_mean_scale: 0,
-        },
-    );
-    controller.perform(
-        &NONE,
-        Call::Report {
-            ticket,
-            bits,
-            shown,
-            droppable,
-        },
-    )
+    let _ = controller.perform(&NONE, choice(1, None, 0));
+    controller.perform(&NONE, report(ticket, bits, shown, droppable))
 }
 
 fn charged(charge: u32) -> Answer {
@@ -131,15 +112,7 @@ fn far_below(rt: HostRuntime) -> Result<(), Fail> {
     }
     assert_eq!(rt; c.status().fullness, 239_904 - 4 * 4_294_967_295);
     assert_eq!(rt; c.status().rate_bias, 0);
-    match c.perform(
-        &NONE,
-        Call::Choose {
-            subtype: 0,
-            outlook: 0,
-            previous: None,
-            log_isqrt_mean_scale: 0,
-        },
-    ) {
+    match c.perform(&NONE, choice(0, None, 0)) {
         Answer::Chosen { ticket, decision } => {
             assert_eq!(rt; ticket, 5);
             assert_eq!(rt; decision.total, -4 * 4_294_967_295);

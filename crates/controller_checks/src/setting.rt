@@ -1,6 +1,8 @@
-// What the tests open.
+// What the tests open, and the calls that they make.
+use calls::Call;
 use controller::Controller;
 use model::Settings;
+use outlook::NothingAhead;
 use stair::Stair;
 use std::test::Fail;
 
@@ -28,5 +30,28 @@ pub fn opened(settings: &Settings, count: u32) -> Result<Controller<Stair>, Fail
     match Controller::open(settings, stair) {
         Ok(controller) => Ok(controller),
         Err(_) => Err(Fail::new("the settings are refused")),
+    }
+}
+
+// No outlooks, so that every place stands for no entries.
+pub const NONE: [NothingAhead; 0] = [];
+
+// A choice by the outlook at place 0.
+pub fn choice(subtype: u8, previous: Option<i64>, log_isqrt_mean_scale: i64) -> Call {
+    Call::Choose {
+        subtype,
+        outlook: 0,
+        previous,
+        log_isqrt_mean_scale,
+    }
+}
+
+// A report, by its parts in their order.
+pub fn report(ticket: u64, bits: u32, shown: bool, droppable: bool) -> Call {
+    Call::Report {
+        ticket,
+        bits,
+        shown,
+        droppable,
     }
 }

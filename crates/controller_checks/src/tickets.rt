@@ -1,33 +1,18 @@
 // Tickets: stale ones, those of another controller, and a frame's whole way.
 use crate::client::coded;
-use crate::setting::{opened, small};
+use crate::setting::{NONE, choice, opened, report, small};
 use calls::{Answer, Call, Refusal, Reported};
 use controller::{Choice, Controller};
 use outlook::NothingAhead;
 use stair::Stair;
 use std::test::Fail;
 
-// No outlooks, so that every place stands for no entries.
-const NONE: [NothingAhead; 0] = [];
-
 fn choose(controller: &mut Controller<Stair>, subtype: u8) -> Answer {
-    let call = Call::Choose {
-        subtype,
-        outlook: 0,
-        previous: None,
-        log_isqrt_mean_scale: 0,
-    };
-    controller.perform(&NONE, call)
+    controller.perform(&NONE, choice(subtype, None, 0))
 }
 
-fn report(controller: &mut Controller<Stair>, ticket: u64) -> Answer {
-    let call = Call::Report {
-        ticket,
-        bits: 1_000,
-        shown: true,
-        droppable: false,
-    };
-    controller.perform(&NONE, call)
+fn reported(controller: &mut Controller<Stair>, ticket: u64) -> Answer {
+    controller.perform(&NONE, report(ticket, 1_000, true, false))
 }
 
 fn trial(controller: &mut Controller<Stair>, ticket: u64, bits: u32) -> Answer {
@@ -54,16 +39,22 @@ const CHARGED: Answer = Answer::Charged(Reported {
 fn stale(rt: HostRuntime) -> Result<(), Fail> {
     let mut c = opened(&small(false), 0)?;
     assert_eq!(rt;
-        report(&mut c, 0),
+        reported(&mut c, 0),
         Answer::Refused(Refusal::NotThatTicket),
         "no ticket is out"
     );
     assert_eq!(rt; ticket_of(choose(&mut c, 1)), Some(1));
     assert_eq!(rt; choose(&mut c, 1), Answer::Refused(Refusal::TicketOut));
-    assert_eq!(rt; report(&mut c, 0), Answer::Refused(Refusal::NotThatTicket));
-    assert_eq!(rt; report(&mut c, 2), Answer::Refused(Refusal::NotThatTicket));
     assert_eq!(rt;
-        report(&mut c, u64::MAX),
+        reported(&mut c, 0),
+        Answer::Refused(Refusal::NotThatTicket)
+    );
+    assert_eq!(rt;
+        reported(&mut c, 2),
+        Answer::Refused(Refusal::NotThatTicket)
+    );
+    assert_eq!(rt;
+        reported(&mut c, u64::MAX),
         Answer::Refused(Refusal::NotThatTicket)
     );
     assert_eq!(rt;
@@ -74,9 +65,9 @@ fn stale(rt: HostRuntime) -> Result<(), Fail> {
         c.status().out,
         "only the ticket that is out clears the mark"
     );
-    assert_eq!(rt; report(&mut c, 1), CHARGED);
+    assert_eq!(rt; reported(&mut c, 1), CHARGED);
     assert_eq!(rt;
-        report(&mut c, 1),
+        reported(&mut c, 1),
         Answer::Refused(Refusal::NotThatTicket),
         "it is spent"
     );
@@ -111,14 +102,14 @@ fn questions(rt: HostRuntime) -> Result<(), Fail> {
     assert_eq!(rt; trial(&mut c, 1, 0), Answer::Refused(Refusal::NoBits));
     assert_eq!(rt; trial(&mut c, 1, 1), Answer::Tried);
     assert_eq!(rt; ticket_of(choose(&mut c, 3)), Some(2));
-    assert_eq!(rt; report(&mut c, 2), CHARGED);
+    assert_eq!(rt; reported(&mut c, 2), CHARGED);
     assert_eq!(rt; ticket_of(choose(&mut c, 3)), Some(3));
     assert_eq!(rt;
         trial(&mut c, 3, 0),
         Answer::Refused(Refusal::NoTrialDue),
         "23 comes before 24"
     );
-    assert_eq!(rt; report(&mut c, 3), CHARGED);
+    assert_eq!(rt; reported(&mut c, 3), CHARGED);
     assert_eq!(rt; ticket_of(choose(&mut c, 2)), Some(4));
     assert_eq!(rt;
         trial(&mut c, 4, 1),
@@ -169,9 +160,9 @@ fn foreign(rt: HostRuntime) -> Result<(), Fail> {
     assert!(rt; !a.status().out);
     assert_eq!(rt; ticket_of(choose(&mut b, 1)), Some(1));
     assert!(rt; crossed(&mut a, &mut b).is_none(), "2 is not 1");
-    assert_eq!(rt; report(&mut b, 1), CHARGED);
+    assert_eq!(rt; reported(&mut b, 1), CHARGED);
     assert_eq!(rt; ticket_of(choose(&mut b, 1)), Some(2));
-    assert_eq!(rt; report(&mut b, 2), CHARGED);
+    assert_eq!(rt; reported(&mut b, 2), CHARGED);
     assert_eq!(rt; ticket_of(choose(&mut b, 1)), Some(3));
     assert!(rt; crossed(&mut a, &mut b).is_some(), "both are the third");
     assert!(rt; a.status().out && !b.status().out);

@@ -1,16 +1,17 @@
 -- The figures by computing.
-use Rattle.std.proofs.Common.{ℕ, Bool, List, ℤ, refl}
+use Rattle.std.proofs.Common.{ℕ, List, refl}
 use Rattle.logexp.specs.LogExp.{computing}
+use Rattle.model.specs.Meaning.{Meaning}
 use Rattle.bessel.specs.Figures.{computing as tangents}
 use Rattle.tables.specs.Choice.{index}
 use Rattle.figures.specs.Figures.{Drops, Figures}
 use Rattle.figures.proofs.Nothing.{nothing_ahead}
 
-module _ {M O : Type 0} (count : M → ℕ → ℤ → ℕ) (trimmed : M → ℕ → ℤ → ℤ → ℤ → ℤ → Bool → ℤ) (next : M → ℕ → ℕ → ℤ → Bool → ℕ → M) (entries : O → List ℕ) where
-  drops : (outlooks : List O) (m : M) → Drops count trimmed next entries outlooks m
+module _ {M O : Type 0} (meaning : Meaning M) (entries : O → List ℕ) where
+  drops : (outlooks : List O) (m : M) → Drops meaning entries outlooks m
   drops outlooks m = record { opens = refl; charged = refl; leaves = refl; dropped = refl }
 
-  pub figures : Figures count trimmed next entries
+  pub figures : Figures meaning entries
   unfolding computing tangents index
   figures = record {
     logarithm = (refl, refl);
@@ -24,5 +25,5 @@ module _ {M O : Type 0} (count : M → ℕ → ℤ → ℕ) (trimmed : M → ℕ
     report = λ outlooks m. refl;
     cap = λ outlooks m. (refl, refl);
     drops = drops;
-    nothing_ahead = nothing_ahead count trimmed next entries;
+    nothing_ahead = nothing_ahead meaning entries;
   }

@@ -1,6 +1,7 @@
 -- The twelve worked figures, by the definitions that the contracts cite.
 use Rattle.std.specs.Prelude.{◌≡◌, ℕ, ◌+◌, ◌*◌, ◌/◌, ◌^◌, Bool, true, false, List, [], ◌++◌, ℤ, pos, negsuc, None, Ok, Option}
 use Rattle.logexp.specs.LogExp.{blog64, bexp64}
+use Rattle.model.specs.Meaning.{Meaning}
 use Rattle.tables.specs.Tables.{ac8, dc8}
 use Rattle.tables.specs.Choice.{index}
 use Rattle.quantize.specs.Indexes.{lowest, highest}
@@ -17,31 +18,31 @@ use Rattle.run.specs.Answers.{State, state_after, state_after_all}
 use Rattle.figures.specs.Worked.{worked_settings, worked_core, frame}
 
 -- the figures at any model, by its meaning, and any outlooks
-module _ {M O : Type 0} (count : M → ℕ → ℤ → ℕ) (trimmed : M → ℕ → ℤ → ℤ → ℤ → ℤ → Bool → ℤ) (next : M → ℕ → ℕ → ℤ → Bool → ℕ → M) (entries : O → List ℕ) where
+module _ {M O : Type 0} (meaning : Meaning M) (entries : O → List ℕ) where
   -- the worked controller over a model, with dropping on or off
   abbrev pub worked : Bool → M → State M
   worked dropping m = record { core = worked_core dropping; model = m }
 
   -- its fullness after calls
   abbrev pub fullness_after : List O → M → List Call → ℤ
-  fullness_after outlooks m calls = (state_after_all count trimmed next entries outlooks (worked false m) calls).core.reservoir.fullness
+  fullness_after outlooks m calls = (state_after_all meaning entries outlooks (worked false m) calls).core.reservoir.fullness
 
   -- with dropping on, and after a choice for an I frame
   abbrev pub chosen : List O → M → State M
-  chosen outlooks m = state_after count trimmed next entries outlooks (worked true m) (Choose 0 0 None (pos 0))
+  chosen outlooks m = state_after meaning entries outlooks (worked true m) (Choose 0 0 None (pos 0))
 
   -- a droppable report of bits at 279,888, the fullness and one credit, and one above
   pub record Drops (outlooks : List O) (m : M) : Type 0 where
     pub opens : opened (worked_settings true) ≡ Ok (worked_core true)
-    pub charged : answer_to count trimmed next entries outlooks (chosen outlooks m).core (chosen outlooks m).model (Report 1 279888 true true) ≡ Charged (record { charge = 279888; dropped = false })
-    pub leaves : (state_after count trimmed next entries outlooks (chosen outlooks m) (Report 1 279888 true true)).core.reservoir.fullness ≡ pos 0
-    pub dropped : answer_to count trimmed next entries outlooks (chosen outlooks m).core (chosen outlooks m).model (Report 1 279889 true true) ≡ Charged (record { charge = 0; dropped = true })
+    pub charged : answer_to meaning entries outlooks (chosen outlooks m).core (chosen outlooks m).model (Report 1 279888 true true) ≡ Charged (record { charge = 279888; dropped = false })
+    pub leaves : (state_after meaning entries outlooks (chosen outlooks m) (Report 1 279888 true true)).core.reservoir.fullness ≡ pos 0
+    pub dropped : answer_to meaning entries outlooks (chosen outlooks m).core (chosen outlooks m).model (Report 1 279889 true true) ≡ Charged (record { charge = 0; dropped = true })
 
   -- a choice with nothing ahead on the fresh controller: total 0, after one try
   abbrev pub NothingAhead : List O → M → Type 0
   NothingAhead outlooks m =
       (k : Subtype) (i : ℕ) (previous : Option ℤ) (mean : ℤ) → entries_at entries outlooks i ≡ []
-      → (d : Decision) × (answer_to count trimmed next entries outlooks (worked_core false) m (Choose (code_of k) i previous mean) ≡ Chosen 1 d)
+      → (d : Decision) × (answer_to meaning entries outlooks (worked_core false) m (Choose (code_of k) i previous mean) ≡ Chosen 1 d)
       × (d.total ≡ pos 0) × (d.tries ≡ 1)
 
   pub record Figures : Type 0 where

@@ -8,7 +8,7 @@ use outlook::Outlook;
 
 // The twelve worked figures hold of the definitions that the contracts cite, whatever the model and the outlooks.
 pub fn figures_stand<M: BitModel, O: Outlook>() -> u8
-    ensures { Figures M.BitModel.count M.BitModel.trimmed M.BitModel.next O.Outlook.entries }
+    ensures { Figures M.meaning O.entries }
 {
     0
 }

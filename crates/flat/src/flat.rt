@@ -6,7 +6,7 @@ ghost use Rattle.flat.specs.Flat.{log_under, entry_log, ac_log, matching, middle
 
 use crate::subtype::Subtype;
 use logexp::blog64;
-use tables::Depth;
+use tables::{Coefficient, Depth};
 
 // The log of the base and of a frame's quantizer, in Q57.
 #[derive(Clone, Copy)]
@@ -23,6 +23,7 @@ fn scaled(log: i64, depth: Depth) -> i64
 }
 
 // The log of a table's entry as a quantizer of 8-bit samples.
+// That logs are near 0 stays in clauses: callers reckon with an i64, and would only unwrap a type that held the bound.
 fn entry_log(entry: u16, depth: Depth) -> i64
     ensures value { result ≡ entry_log entry depth }
     ensures near { log_under depth entry ≡ true → Near 8 result }
@@ -42,14 +43,15 @@ pub fn ac_log(qindex: u8, depth: Depth) -> i64
     ensures value { result ≡ ac_log qindex depth }
     ensures near { Near 8 result }
 {
-    entry_log(depth.ac_q(qindex), depth)
+    entry_log(depth.q(Coefficient::Ac, qindex), depth)
 }
 
 // The DC entry that stands for an AC entry.
 fn matching_dc(entry: u16, depth: Depth) -> u16
     ensures { result ≡ matching entry depth }
 {
-    depth.dc_q(depth.select_dc_qi(entry as i64))
+    let qindex = depth.select_qi(Coefficient::Dc, entry as i64);
+    depth.q(Coefficient::Dc, qindex)
 }
 
 // The base log of an index without rate control: midway between the logs of its AC entry and of the DC entry
@@ -58,7 +60,7 @@ pub fn flat_log(qindex: u8, depth: Depth) -> i64
     ensures value { result ≡ flat_base qindex depth }
     ensures near { Near 8 result }
 {
-    let ac = depth.ac_q(qindex);
+    let ac = depth.q(Coefficient::Ac, qindex);
     let dc = matching_dc(ac, depth);
     midway(entry_log(ac, depth), entry_log(dc, depth))
 }

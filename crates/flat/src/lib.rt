@@ -6,4 +6,4 @@ mod flat;
 mod subtype;
 
 pub use flat::{FlatQuantizer, ac_log, calc_flat_quantizer, flat_log, logs_stand};
-pub use subtype::Subtype;
+pub use subtype::{NoSuchSubtype, Subtype};

@@ -1,5 +1,5 @@
 // A test program, not for users: it makes curves, teaches them and asks them as the lines of standard input say, and
-// prints one answer for each. A line that is none of `line` ends it. It rests on `model` and `words`.
+// prints one answer for each. A line that is none of `line` ends it. It rests on `model`, `words` and `operands`.
 #![tactic(auto)]
 
 mod answer;
@@ -9,6 +9,7 @@ use answer::{Answer, answer_to};
 use anyhow::anyhow;
 use line::line_of;
 use model::Curve;
+use operands::Operands;
 use std::alloc::Global;
 use std::io::{BufWriter, Read, Write};
 use std::process::ExitCode;
@@ -20,7 +21,8 @@ fn answered(heap: Global, curve: &mut Option<Curve>, line: &str) -> anyhow::Resu
     if words.is_empty() {
         return Ok(None);
     }
-    match answer_to(curve, line_of(words.as_slice())) {
+    let said = line_of(Operands::new(words.as_slice())).ok();
+    match said.and_then(|said| answer_to(curve, said)) {
         Some(answer) => Ok(Some(answer)),
         None => Err(anyhow!("a line is malformed, or there is no curve yet")),
     }
@@ -43,13 +45,12 @@ fn work(rt: &HostRuntime) -> anyhow::Result<()> {
     let heap = rt.alloc();
     let mut bytes = Vec::new(heap);
     rt.stdin().read_to_end(&mut bytes)?;
-    let (text, whole) = text_of(bytes.as_slice());
-    let lines = lines_of(heap, text)?;
-    answer_all(rt, lines.as_slice())?;
-    if whole {
-        Ok(())
-    } else {
-        Err(anyhow!("a line is not UTF-8"))
+    match text_of(bytes.as_slice()) {
+        Ok(text) => answer_all(rt, lines_of(heap, text)?.as_slice()),
+        Err(e) => {
+            answer_all(rt, lines_of(heap, e.before)?.as_slice())?;
+            Err(e.into())
+        }
     }
 }
 

@@ -78,7 +78,8 @@ fn tail_of(ipart: u32, e: Exp) -> i64
     t.lo
 }
 
-// 2^62 times the power of two of a fraction in Q57.
+// 2^62 times the power of two of a fraction in Q57. That powers are not negative stays in clauses, since the original
+// reckons with signed numbers, as do all callers.
 fn scaled(ipart: u32, z: i64) -> i64
     requires { (pos 0 ≤ℤ z) × (z <ℤ pos (2 ^ 57)) }
     ensures value { result ≡ scaled ipart z }

@@ -45,7 +45,8 @@ fn log_turns(w: u64) -> i64
     l.z
 }
 
-// n with its top digit moved to the place of 2^61; a number of 63 digits loses its last one.
+// n with its top digit moved to the place of 2^61; a number of 63 digits loses its last one. That the result lies from
+// 2^61 to 2^62 stays in clauses: a type for it would be taken apart at each turn.
 fn moved(ipart: u32, n: u64) -> u64
     requires { (ipart ≤ 62) × ((2 ^ ipart ≤ n) × (n < 2 ^ (ipart + 1))) }
     ensures value { result ≡ moved ipart n }

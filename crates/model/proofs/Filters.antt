@@ -1,10 +1,11 @@
 -- What the filter's numbers are, over plain variables.
-use Rattle.std.proofs.Common.{◌≡◌, ℕ, ◌*◌, ◌^◌, Bool, true, false, ◌||◌, eqb, ℤ, pos, negsuc, ◌≤ℤ◌, ap, ◌∙◌, arith, w64, SFits, to_z, of_z}
+use Rattle.std.proofs.Common.{◌≡◌, ℕ, ◌*◌, ◌^◌, true, false, ◌||◌, eqb, ℤ, pos, negsuc, ◌≤ℤ◌, ap, ◌∙◌, arith, w64, SFits, to_z, of_z}
 use Rattle.std.specs.Int.{int_min}
 use Rattle.std.proofs.lemmas.Int.{ints, to_z-of_z}
 use Rattle.logexp.specs.LogExp.{bexp64, blog64}
 use Rattle.logexp.specs.Held.{◌⊕◌, ◌⊖◌}
 use Rattle.model.specs.Scales.{power, counted, filter_bits, filter_count, scale_of, q24, begun, lengthened, followed, filter_next}
+use Rattle.model.specs.declared.lesson.Lesson.{Lesson}
 use Rattle.model.specs.declared.filter.Filter.{Filter}
 
 pub counted_is : (z : ℤ) → pos 0 ≤ℤ z → SFits w64 z → pos (counted z) ≡ z
@@ -28,15 +29,15 @@ scale_by pixels p b d s m n g e1 e2 e3 e4 =
     let u = to_z-of_z w64 m g in
     cc
 
-pub next_begun : (f r : Filter) (pixels q p s : ℤ) (target bits n : ℕ) (inter t : Bool) → (t || eqb n 0) ≡ true
-    → p ≡ power f q → s ≡ scale_of pixels bits p → r ≡ begun f s → r ≡ filter_next f pixels target inter bits q t n
+pub next_begun : (f r : Filter) (pixels p s : ℤ) (target : ℕ) (l : Lesson) → (l.trial || eqb l.reports 0) ≡ true
+    → p ≡ power f l.log_q → s ≡ scale_of pixels l.bits p → r ≡ begun f s → r ≡ filter_next f pixels target l
 unfolding filter_next
-next_begun f r pixels q p s target bits n inter t b e1 e2 e3 =
-    rw b (e3 ∙ ap (begun f) (e2 ∙ ap (scale_of pixels bits) e1))
+next_begun f r pixels p s target l b e1 e2 e3 =
+    rw b (e3 ∙ ap (begun f) (e2 ∙ ap (scale_of pixels l.bits) e1))
 
-pub next_followed : (f g r : Filter) (pixels q p s x : ℤ) (target bits n : ℕ) (inter t : Bool) → (t || eqb n 0) ≡ false
-    → p ≡ power f q → s ≡ scale_of pixels bits p → x ≡ q24 s → g ≡ lengthened f inter target n → r ≡ followed g x
-    → r ≡ filter_next f pixels target inter bits q t n
+pub next_followed : (f g r : Filter) (pixels p s x : ℤ) (target : ℕ) (l : Lesson) → (l.trial || eqb l.reports 0) ≡ false
+    → p ≡ power f l.log_q → s ≡ scale_of pixels l.bits p → x ≡ q24 s → g ≡ lengthened f target l → r ≡ followed g x
+    → r ≡ filter_next f pixels target l
 unfolding filter_next
-next_followed f g r pixels q p s x target bits n inter t b e1 e2 e3 e4 e5 =
-    rw b (e5 ∙ ap (λ (h : Filter). followed h x) e4 ∙ ap (followed (lengthened f inter target n)) (e3 ∙ ap q24 (e2 ∙ ap (scale_of pixels bits) e1)))
+next_followed f g r pixels p s x target l b e1 e2 e3 e4 e5 =
+    rw b (e5 ∙ ap (λ (h : Filter). followed h x) e4 ∙ ap (followed (lengthened f target l)) (e3 ∙ ap q24 (e2 ∙ ap (scale_of pixels l.bits) e1)))

@@ -9,20 +9,21 @@ use Rattle.setup.specs.Questions.{and_then, accepted}
 use Rattle.setup.specs.declared.refusal.Refusal.{Refusal}
 use Rattle.setup.specs.declared.settings.Accepted.{Accepted}
 use Rattle.model.specs.declared.filter.Filter.{Filter}
+use Rattle.model.specs.declared.filter.Guess.{Guess}
 use Rattle.setup.specs.declared.settings.Settings.{Settings}
 use Rattle.model.specs.declared.curve.Curve.{Curve}
 
-one : (f : Filter) (g h : ℕ × ℕ) (d : ℕ) → g ≡ h → f ≡ fresh_filter g d → f ≡ fresh_filter h d
-one f g h d p q = q ∙ ap (λ (x : ℕ × ℕ). fresh_filter x d) p
+one : (f : Filter) (g h : Guess) (d : ℕ) → g ≡ h → f ≡ fresh_filter g d → f ≡ fresh_filter h d
+one f g h d p q = q ∙ ap (λ (x : Guess). fresh_filter x d) p
 
 four : (a b c d a' b' c' d' : Filter) → a ≡ a' → b ≡ b' → c ≡ c' → d ≡ d' → ◌≡◌ {A = List Filter} (a ∷ b ∷ c ∷ d ∷ []) (a' ∷ b' ∷ c' ∷ d' ∷ [])
 four a b c d a' b' c' d' p q r s = cc
 
-pub filters_by : (n : ℕ) (g1 g2 g3 g4 : ℕ × ℕ) (f1 f2 f3 f4 : Filter)
-    → g1 ≡ guessed n 1 4 (48, 36) (61, 55) (77, 129) → f1 ≡ fresh_filter g1 4
-    → g2 ≡ guessed n 2 139 (69, 32) (104, 84) (83, 19) → f2 ≡ fresh_filter g2 10
-    → g3 ≡ guessed n 2 92 (84, 30) (120, 68) (68, 4) → f3 ≡ fresh_filter g3 10
-    → g4 ≡ guessed n 2 126 (87, 27) (139, 84) (61, 1) → f4 ≡ fresh_filter g4 10
+pub filters_by : (n : ℕ) (g1 g2 g3 g4 : Guess) (f1 f2 f3 f4 : Filter)
+    → g1 ≡ guessed n 1 4 (record { exp = 48; eighths = 36 }) (record { exp = 61; eighths = 55 }) (record { exp = 77; eighths = 129 }) → f1 ≡ fresh_filter g1 4
+    → g2 ≡ guessed n 2 139 (record { exp = 69; eighths = 32 }) (record { exp = 104; eighths = 84 }) (record { exp = 83; eighths = 19 }) → f2 ≡ fresh_filter g2 10
+    → g3 ≡ guessed n 2 92 (record { exp = 84; eighths = 30 }) (record { exp = 120; eighths = 68 }) (record { exp = 68; eighths = 4 }) → f3 ≡ fresh_filter g3 10
+    → g4 ≡ guessed n 2 126 (record { exp = 87; eighths = 27 }) (record { exp = 139; eighths = 84 }) (record { exp = 61; eighths = 1 }) → f4 ≡ fresh_filter g4 10
     → (f1 ∷ f2 ∷ f3 ∷ f4 ∷ []) ≡ fresh_filters n
 unfolding fresh_filters
 filters_by n g1 g2 g3 g4 f1 f2 f3 f4 p1 q1 p2 q2 p3 q3 p4 q4 =

@@ -1,12 +1,13 @@
 -- The limits' ways, over plain variables.
-use Rattle.std.proofs.Common.{◌≡◌, ℕ, Bool, true, false, ℤ, pos, ◌≤ℤ◌, ◌<ℤ◌, sym, ap, ◌∙◌, arith}
+use Rattle.std.proofs.Common.{◌≡◌, ℕ, true, false, ℤ, pos, ◌≤ℤ◌, ◌<ℤ◌, sym, ap, ◌∙◌, arith}
 use lib.Signed.{lt_z}
 use Rattle.std.proofs.lemmas.Int.{ints}
 use Rattle.logexp.specs.LogExp.{blog64}
-use Rattle.logexp.specs.Held.{◌⊕◌, ◌⊖◌, ◌≫◌}
+use Rattle.logexp.specs.Held.{◌⊖◌}
 use Rattle.model.specs.Scales.{exponent, powered}
 use Rattle.model.specs.declared.filter.Filter.{Filter}
-use Rattle.model.specs.Trims.{margin_of, soft_of, scaled_pixels, hard_unless, filter_trim, unpowered, eased, share_of, soft_trim, hard_trim}
+use Rattle.model.specs.declared.room.Room.{Room}
+use Rattle.model.specs.Trims.{margin_of, soft_of, hard_of, scaled_pixels, hard_unless, filter_trim, unpowered, eased, share_of, soft_trim, hard_trim}
 
 not_under : (a b : ℤ) → a ≤ℤ b → lt_z b a ≡ false
 not_under a b h = grind (arith, ints)
@@ -49,9 +50,9 @@ hard_moved e pixels q hard p d l s r e1 e2 e3 g e4 e5 =
     let t : lt_z (blog64 hard) (pixels ⊖ powered q (pos e)) ≡ true = ap (λ (x : ℤ). lt_z (blog64 hard) (pixels ⊖ x)) (sym e1) ∙ ap (lt_z (blog64 hard)) (sym e2) ∙ ap (λ (x : ℤ). lt_z x d) (sym e3) ∙ is_under l d g in
     rw t (cc)
 
-pub trim_by : (f : Filter) (pixels q fullness credit limit s m w t g r : ℤ) (e : ℕ) (h : Bool)
-    → e ≡ exponent f → s ≡ scaled_pixels f pixels → m ≡ margin_of limit → w ≡ soft_of fullness credit limit m
-    → t ≡ soft_trim e s q w m → g ≡ fullness ⊕ credit ≫ 1 → r ≡ hard_unless h e s t g
-    → r ≡ filter_trim f pixels q fullness credit limit h
+pub trim_by : (f : Filter) (pixels q : ℤ) (room : Room) (s m w t g r : ℤ) (e : ℕ)
+    → e ≡ exponent f → s ≡ scaled_pixels f pixels → m ≡ margin_of room.limit → w ≡ soft_of room m
+    → t ≡ soft_trim e s q w m → g ≡ hard_of room → r ≡ hard_unless room.highest e s t g
+    → r ≡ filter_trim f pixels q room
 unfolding filter_trim
-trim_by f pixels q fullness credit limit s m w t g r e h e1 e2 e3 e4 e5 e6 e7 = cc
+trim_by f pixels q room s m w t g r e e1 e2 e3 e4 e5 e6 e7 = cc

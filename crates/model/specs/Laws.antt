@@ -1,5 +1,5 @@
 -- Laws of the curve model in the subject's words, and a worked opening.
-use Rattle.std.specs.Prelude.{◌≡◌, ℕ, zero, suc, ◌+◌, ◌^◌, ◌<◌, ◌≤◌, max, Bool, true, false, cond, ◌||◌, List, [], ◌∷◌, length, ℤ, pos, ◌+ℤ◌, ◌-ℤ◌, ◌≤ℤ◌, Some, None, Ok, ◌==◌, ◌≢◌, nat_lt, slice_index_or, unsigned_abs}
+use Rattle.std.specs.Prelude.{◌≡◌, ℕ, zero, suc, ◌+◌, ◌^◌, ◌<◌, ◌≤◌, max, true, false, cond, ◌||◌, List, [], ◌∷◌, length, ℤ, pos, ◌+ℤ◌, ◌-ℤ◌, ◌≤ℤ◌, Some, None, Ok, ◌==◌, ◌≢◌, nat_lt, slice_index_or, unsigned_abs}
 use Rattle.tables.specs.declared.depth.Depth.TheVariants.{Eight}
 use Rattle.quantize.specs.declared.sampling.ChromaSampling.TheVariants.{Cs420}
 use Rattle.logexp.specs.LogExp.{blog64, bexp64}
@@ -7,6 +7,7 @@ use Rattle.bessel.specs.Follow.{restarted}
 use Rattle.model.specs.Scales.{q24, power, counted, scale_of}
 use Rattle.model.specs.Curves.{blank, curve_count, curve_next, curve_of}
 use Rattle.setup.specs.Questions.{accepted}
+use Rattle.model.specs.declared.lesson.Lesson.{Lesson}
 use Rattle.model.specs.declared.filter.Filter.{Filter}
 use Rattle.model.specs.declared.curve.Curve.{Curve}
 use Rattle.setup.specs.declared.settings.Settings.{Settings}
@@ -32,18 +33,10 @@ pub record Bounded (target k : ℕ) (f : Filter) : Type 0 where
 abbrev pub AllBounded : Curve → Type 0
 AllBounded m = (k : ℕ) → k < 4 → Bounded m.inter_delay_target k (filter_at m k)
 
--- a lesson: the subtype, its bits, its log quantizer, the trial mark and the subtype's reports before it
-pub record Lesson : Type 0 where
-  pub subtype : ℕ
-  pub bits : ℕ
-  pub log : ℤ
-  pub trial : Bool
-  pub reports : ℕ
-
 -- the curve after one lesson after another
 unfoldable pub lessons : Curve → List Lesson → Curve
 lessons m [] = m
-lessons m (l ∷ ls) = lessons (curve_next m l.subtype l.bits l.log l.trial l.reports) ls
+lessons m (l ∷ ls) = lessons (curve_next m l) ls
 
 -- the delays of a curve lengthen to at most 512, and no lesson takes a filter out of its bounds
 abbrev pub StaysBounded : Curve → Type 0
@@ -58,25 +51,25 @@ BoundsKept = (s : Settings) (ls : List Lesson) → AllBounded (lessons (curve_of
 -- a lesson leaves the other three filters, their scales in them, and what all four share
 abbrev pub OthersKept : Type 0
 OthersKept =
-    (m : Curve) (k b : ℕ) (q : ℤ) (t : Bool) (n j : ℕ) → (j ≢ k)
-    → (filter_at (curve_next m k b q t n) j ≡ filter_at m j)
-    × ((curve_next m k b q t n).log_npixels ≡ m.log_npixels)
-    × ((curve_next m k b q t n).inter_delay_target ≡ m.inter_delay_target)
+    (m : Curve) (l : Lesson) (j : ℕ) → (j ≢ l.subtype)
+    → (filter_at (curve_next m l) j ≡ filter_at m j)
+    × ((curve_next m l).log_npixels ≡ m.log_npixels)
+    × ((curve_next m l).inter_delay_target ≡ m.inter_delay_target)
 
 -- a lesson that begins anew: of a subtype that the curve has, with bits, in a trial or with no report before it
-pub record Begins (m : Curve) (k b : ℕ) (t : Bool) (n : ℕ) : Type 0 where
-  pub known : k < 4
-  pub there : k < length m.filters
-  pub some_bits : 0 < b
-  pub first : (t || n == 0) ≡ true
+pub record Begins (m : Curve) (l : Lesson) : Type 0 where
+  pub known : l.subtype < 4
+  pub there : l.subtype < length m.filters
+  pub some_bits : 0 < l.bits
+  pub first : (l.trial || l.reports == 0) ≡ true
 
 -- after it the scale is the one just seen, and all that the follower took and gave is that scale in Q24
 abbrev pub ScaleAgrees : Type 0
 ScaleAgrees =
-    (m : Curve) (k b : ℕ) (q : ℤ) (t : Bool) (n : ℕ) → Begins m k b t n
-    → ((filter_at (curve_next m k b q t n) k).log_scale ≡ scale_of m.log_npixels b (power (filter_at m k) q))
-    × ((filter_at (curve_next m k b q t n) k).follower
-    ≡ restarted (filter_at m k).follower (q24 (filter_at (curve_next m k b q t n) k).log_scale))
+    (m : Curve) (l : Lesson) → Begins m l
+    → ((filter_at (curve_next m l) l.subtype).log_scale ≡ scale_of m.log_npixels l.bits (power (filter_at m l.subtype) l.log_q))
+    × ((filter_at (curve_next m l) l.subtype).follower
+    ≡ restarted (filter_at m l.subtype).follower (q24 (filter_at (curve_next m l) l.subtype).log_scale))
 
 -- the logs of a lesson from which nothing is held and whose scale is not cut: both logs from 0 to 32 doublings, the power nearer than 32 to 0, the scale at most 16
 pub record Unheld (log_bits pixels p : ℤ) : Type 0 where
@@ -90,9 +83,9 @@ pub record Unheld (log_bits pixels p : ℤ) : Type 0 where
 -- then the curve predicts, at the log quantizer of the lesson, the exponential of the logarithm of the bits seen
 abbrev pub SeenAgain : Type 0
 SeenAgain =
-    (m : Curve) (k b : ℕ) (q : ℤ) (t : Bool) (n : ℕ) → Begins m k b t n
-    → Unheld (blog64 (pos b)) m.log_npixels (power (filter_at m k) q)
-    → curve_count (curve_next m k b q t n) k q ≡ counted (bexp64 (blog64 (pos b)))
+    (m : Curve) (l : Lesson) → Begins m l
+    → Unheld (blog64 (pos l.bits)) m.log_npixels (power (filter_at m l.subtype) l.log_q)
+    → curve_count (curve_next m l) l.subtype l.log_q ≡ counted (bexp64 (blog64 (pos l.bits)))
 
 -- what is predicted then, r, lies between the powers of two around the bits b
 abbrev pub NearSeen : ℕ → ℤ → Type 0

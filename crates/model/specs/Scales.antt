@@ -4,7 +4,9 @@ use Rattle.std.specs.Int.{int_min}
 use Rattle.logexp.specs.LogExp.{bexp64, blog64}
 use Rattle.logexp.specs.Held.{◌⊕◌, ◌⊖◌, ◌⊗◌, ◌≫◌}
 use Rattle.bessel.specs.Follow.{standing, delayed, restarted, filtered, smoothed}
+use Rattle.model.specs.declared.lesson.Lesson.{Lesson}
 use Rattle.model.specs.declared.filter.Filter.{Filter}
+use Rattle.model.specs.declared.filter.Guess.{Guess}
 
 -- from Q57 to the nearest in Q24, halves up
 abbrev pub q24 : ℤ → ℤ
@@ -52,9 +54,10 @@ begun f scale = record {
   delay = f.delay;
 }
 
--- does a later lesson first lengthen the delay? of an inter subtype, below the target, and at most the reports n
-abbrev pub lengthens : Filter → Bool → ℕ → ℕ → Bool
-lengthens f inter target n = inter && (nat_lt f.delay target && nat_lt f.delay (n + 1))
+-- does a later lesson first lengthen the delay? of an inter subtype, below the target, and at most the reports before
+-- it
+abbrev pub lengthens : Filter → ℕ → Lesson → Bool
+lengthens f target l = nat_lt 0 l.subtype && (nat_lt f.delay target && nat_lt f.delay (l.reports + 1))
 
 -- a delay that is longer by 1, with its parameters
 abbrev pub longer : Filter → Filter
@@ -66,8 +69,8 @@ longer f = record {
 }
 
 -- the filter with its delay lengthened where it is to be
-abbrev pub lengthened : Filter → Bool → ℕ → ℕ → Filter
-lengthened f inter target n = cond (lengthens f inter target n) (longer f) f
+abbrev pub lengthened : Filter → ℕ → Lesson → Filter
+lengthened f target l = cond (lengthens f target l) (longer f) f
 
 -- the follower takes x, and its output is the scale
 abbrev pub followed : Filter → ℤ → Filter
@@ -79,21 +82,21 @@ followed f x = record {
 }
 
 -- a lesson: a trial, or no report before it, begins anew; any other lengthens the delay where it is to be, and follows
-unfoldable pub filter_next : Filter → ℤ → ℕ → Bool → ℕ → ℤ → Bool → ℕ → Filter
-filter_next f pixels target inter bits q t n =
-    cond (t || n == 0)
-    (begun f (scale_of pixels bits (power f q)))
-    (followed (lengthened f inter target n) (q24 (scale_of pixels bits (power f q))))
+unfoldable pub filter_next : Filter → ℤ → ℕ → Lesson → Filter
+filter_next f pixels target l =
+    cond (l.trial || l.reports == 0)
+    (begun f (scale_of pixels l.bits (power f l.log_q)))
+    (followed (lengthened f target l) (q24 (scale_of pixels l.bits (power f l.log_q))))
 
 -- the log of n eighths
 abbrev pub first_scale : ℕ → ℤ
 first_scale n = blog64 (pos n) ⊖ pos (3 * 2 ^ 57)
 
--- a filter that has learnt nothing: its exponent and its first scale in eighths, and a follower that stands at that scale
-abbrev pub fresh_filter : ℕ × ℕ → ℕ → Filter
+-- a filter that has learnt nothing: the exponent and the scale of a guess, and a follower that stands at that scale
+abbrev pub fresh_filter : Guess → ℕ → Filter
 fresh_filter g delay = record {
-  follower = standing delay (q24 (first_scale g.1));
-  log_scale = first_scale g.1;
-  exp = g.0;
+  follower = standing delay (q24 (first_scale g.eighths));
+  log_scale = first_scale g.eighths;
+  exp = g.exp;
   delay = delay;
 }

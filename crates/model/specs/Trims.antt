@@ -5,6 +5,7 @@ use Rattle.logexp.specs.LogExp.{blog64}
 use Rattle.logexp.specs.Held.{◌⊕◌, ◌⊖◌, ◌⊗◌, ◌≫◌}
 use Rattle.bessel.specs.Follow.{newest}
 use Rattle.model.specs.Scales.{q57, exponent, powered}
+use Rattle.model.specs.declared.room.Room.{Room}
 use Rattle.model.specs.declared.filter.Filter.{Filter}
 
 -- the margin, the part of the reservoir that is left for errors of prediction: a 32nd of the limit, rounded up
@@ -12,8 +13,12 @@ abbrev pub margin_of : ℤ → ℤ
 margin_of l = (l ⊕ pos 31) ≫ 5
 
 -- the soft limit, the bits that the next frame should use at least: fullness and credit, less what lies below the margin
-abbrev pub soft_of : ℤ → ℤ → ℤ → ℤ → ℤ
-soft_of f c l margin = (f ⊕ c) ⊖ (l ⊖ margin)
+abbrev pub soft_of : Room → ℤ → ℤ
+soft_of r margin = (r.fullness ⊕ r.credit) ⊖ (r.limit ⊖ margin)
+
+-- the hard limit, the bits that the next frame may use at most: fullness and half the credit
+abbrev pub hard_of : Room → ℤ
+hard_of r = r.fullness ⊕ r.credit ≫ 1
 
 -- how far into the margin that is, in Q32: at most 1, the fraction dropped
 abbrev pub share_of : ℤ → ℤ → ℤ
@@ -56,9 +61,9 @@ hard_unless false e pixels q hard = hard_trim e pixels q hard
 abbrev pub scaled_pixels : Filter → ℤ → ℤ
 scaled_pixels f pixels = q57 (newest f.follower) ⊕ pixels
 
--- the soft limit, then the hard limit, which is fullness and half the credit
-unfoldable pub filter_trim : Filter → ℤ → ℤ → ℤ → ℤ → ℤ → Bool → ℤ
-filter_trim f pixels q fullness credit limit highest =
-    hard_unless highest (exponent f) (scaled_pixels f pixels)
-    (soft_trim (exponent f) (scaled_pixels f pixels) q (soft_of fullness credit limit (margin_of limit)) (margin_of limit))
-    (fullness ⊕ credit ≫ 1)
+-- the soft limit, then the hard limit
+unfoldable pub filter_trim : Filter → ℤ → ℤ → Room → ℤ
+filter_trim f pixels q r =
+    hard_unless r.highest (exponent f) (scaled_pixels f pixels)
+    (soft_trim (exponent f) (scaled_pixels f pixels) q (soft_of r (margin_of r.limit)) (margin_of r.limit))
+    (hard_of r)

@@ -6,7 +6,9 @@ ghost use Rattle.logexp.specs.LogExp.{blog64};
 ghost use Rattle.model.specs.Scales.{q24, q57, exponent, powered, power, filter_count, scale_of, begun, lengthens, lengthened, followed, filter_next, first_scale, fresh_filter};
 ghost use Rattle.model.specs.Trims.{scaled_pixels, filter_trim};
 
-use crate::trim::{hard_unless, margin_of, powered, soft_of, soft_trim};
+use crate::lesson::Lesson;
+use crate::room::Room;
+use crate::trim::{Exponent, Margin, Scaled};
 use bessel::IIRBessel2;
 
 // A subtype's follower of log scales in Q24, its log scale in Q57, its exponent in Q6 and its follower's delay.
@@ -16,6 +18,21 @@ pub struct Filter {
     log_scale: i64,
     exp: u8,
     delay: u32,
+}
+
+// What a filter is taken to be before any lesson: its exponent in Q6, and its first scale in eighths.
+#[derive(Clone, Copy)]
+pub(crate) struct Guess {
+    exp: u8,
+    eighths: u8,
+}
+
+impl Guess {
+    pub(crate) fn of(exp: u8, eighths: u8) -> Guess
+        ensures { result ≡ record { exp = exp; eighths = eighths } }
+    {
+        Guess { exp, eighths }
+    }
 }
 
 // The greatest log scale, in Q57.
@@ -56,33 +73,31 @@ fn first_scale(n: u8) -> i64
 }
 
 impl Filter {
-    // A filter that has learnt nothing yet, by its exponent and its first scale in eighths.
-    pub(crate) fn new(guess: (u8, u8), delay: u32) -> Filter
+    // A filter that has learnt nothing yet.
+    pub(crate) fn new(guess: Guess, delay: u32) -> Filter
         ensures { result ≡ fresh_filter guess delay }
     {
-        let (exp, n) = guess;
-        let log_scale = first_scale(n);
+        let log_scale = first_scale(guess.eighths);
         Filter {
             follower: IIRBessel2::new(delay, q57_to_q24(log_scale)),
             log_scale,
-            exp,
+            exp: guess.exp,
             delay,
         }
     }
 
     // The exponent, at least 1.
-    fn exponent(&self) -> u8
-        ensures value { result ≡ exponent self.now }
-        ensures least { 1 ≤ result }
+    fn exponent(&self) -> Exponent
+        ensures { result.value ≡ exponent self.now }
     {
-        self.exp.max(1)
+        Exponent::of(self.exp)
     }
 
     // The log of the quantizer's power.
     fn power(&self, log_q: i64) -> i64
         ensures { result ≡ power self.now log_q }
     {
-        powered(log_q, self.exponent() as i64)
+        self.exponent().powered(log_q)
     }
 
     // The predicted bits at a log quantizer.
@@ -105,17 +120,17 @@ impl Filter {
     }
 
     // Whether a later lesson first lengthens the follower's delay.
-    fn lengthens(&self, inter: bool, target: u32, reports: u32) -> bool
-        ensures { result ≡ lengthens self.now inter target reports }
+    fn lengthens(&self, target: u32, lesson: Lesson) -> bool
+        ensures { result ≡ lengthens self.now target lesson }
     {
-        inter && self.delay < target && self.delay <= reports
+        lesson.subtype > 0 && self.delay < target && self.delay <= lesson.reports
     }
 
     // Lengthens the delay by 1, where it is to be.
-    fn lengthen(&mut self, inter: bool, target: u32, reports: u32)
-        ensures { self.new ≡ lengthened self.old inter target reports }
+    fn lengthen(&mut self, target: u32, lesson: Lesson)
+        ensures { self.new ≡ lengthened self.old target lesson }
     {
-        if self.lengthens(inter, target, reports) {
+        if self.lengthens(target, lesson) {
             self.delay += 1;
             self.follower.reinit(self.delay);
         }
@@ -128,24 +143,15 @@ impl Filter {
         self.log_scale = q24_to_q57(self.follower.update(x));
     }
 
-    // Learns from a frame that used bits at a log quantizer.
-    pub(crate) fn learn(
-        &mut self,
-        log_npixels: i64,
-        target: u32,
-        inter: bool,
-        bits: u32,
-        log_q: i64,
-        trial: bool,
-        reports: u32,
-    )
-        ensures { self.new ≡ filter_next self.old log_npixels target inter bits log_q trial reports }
+    // Learns from what a frame used.
+    pub(crate) fn learn(&mut self, log_npixels: i64, target: u32, lesson: Lesson)
+        ensures { self.new ≡ filter_next self.old log_npixels target lesson }
     {
-        let scale = scale_of(log_npixels, bits, self.power(log_q));
-        if trial || reports == 0 {
+        let scale = scale_of(log_npixels, lesson.bits, self.power(lesson.log_q));
+        if lesson.trial || lesson.reports == 0 {
             self.begin(scale);
         } else {
-            self.lengthen(inter, target, reports);
+            self.lengthen(target, lesson);
             self.follow(q57_to_q24(scale));
         }
     }
@@ -158,34 +164,16 @@ impl Filter {
     }
 
     // The log quantizer after the soft limit and, where no highest index is set, the hard limit.
-    pub(crate) fn trim(
-        &self,
-        log_npixels: i64,
-        log_q: i64,
-        fullness: i64,
-        credit: i64,
-        limit: i64,
-        highest: bool,
-    ) -> i64
-        requires { pos 1 ≤ℤ limit }
-        ensures { result ≡ filter_trim self.now log_npixels log_q fullness credit limit highest }
+    pub(crate) fn trim(&self, log_npixels: i64, log_q: i64, room: Room) -> i64
+        requires { pos 1 ≤ℤ room.limit }
+        ensures { result ≡ filter_trim self.now log_npixels log_q room }
     {
-        let exp = self.exponent();
-        let pixels = self.scaled_pixels(log_npixels);
-        let margin = margin_of(limit);
-        let softened = soft_trim(
-            exp,
-            pixels,
-            log_q,
-            soft_of(fullness, credit, limit, margin),
-            margin,
-        );
-        hard_unless(
-            highest,
-            exp,
-            pixels,
-            softened,
-            fullness.saturating_add(credit >> 1),
-        )
+        let scaled = Scaled {
+            exp: self.exponent(),
+            pixels: self.scaled_pixels(log_npixels),
+        };
+        let margin = Margin::of(room.limit);
+        let softened = scaled.soft_trim(log_q, room.soft(margin), margin);
+        scaled.hard_unless(room.highest, softened, room.hard())
     }
 }

@@ -1,5 +1,5 @@
 // The tangent and the parameters of the delays 4 and 10, and a follower from step to step.
-use bessel::{IIRBessel2, iir_bessel2_get_parameters, warp_alpha};
+use bessel::{IIRBessel2, Parameters, iir_bessel2_get_parameters, warp_alpha};
 use std::process::Abort;
 use std::test::Fail;
 
@@ -14,6 +14,7 @@ fn tangents(rt: HostRuntime) {
     assert_eq!(rt; warp_alpha(17 * (1 << 24) / 36 + 1), 46_817);
 }
 
+// The parameters of a delay, in their order.
 fn parameters(
     rt: &impl Abort,
     delay: u32,
@@ -22,10 +23,11 @@ fn parameters(
     g: i32,
     note: &str,
 ) -> Result<(), Fail> {
-    let found = iir_bessel2_get_parameters(delay);
-    assert_eq!(rt; found.0, c0, "{note}");
-    assert_eq!(rt; found.1, c1, "{note}");
-    assert_eq!(rt; found.2, g, "{note}");
+    assert_eq!(rt;
+        iir_bessel2_get_parameters(delay),
+        Parameters { c0, c1, g },
+        "{note}"
+    );
     Ok(())
 }
 

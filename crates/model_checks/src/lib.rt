@@ -9,4 +9,6 @@ mod followers;
 #[cfg(test)]
 mod opening;
 #[cfg(test)]
+mod operands;
+#[cfg(test)]
 mod stairs;

@@ -1,30 +1,16 @@
 // The eight questions on both sides of every bound, their order, and the figures of accepted settings.
+use crate::operands::USUAL;
 use model::Settings;
 use quantize::ChromaSampling;
 use std::process::Abort;
 use std::test::Fail;
 use tables::Depth;
 
-const USUAL: Settings = Settings {
-    width: 640,
-    height: 360,
-    numerator: 25,
-    denominator: 1,
-    bitrate: 1_000_000,
-    depth: 8,
-    sampling: 0,
-    lowest: 0,
-    highest: None,
-    interval: 240,
-    delay: Some(12),
-    dropping: false,
-};
-
 // The number of the first question that is answered by no, or 0.
 fn number(settings: Settings) -> u8 {
     match settings.accept() {
         Ok(_) => 0,
-        Err(no) => no.number(),
+        Err(no) => no.into(),
     }
 }
 

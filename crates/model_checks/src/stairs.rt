@@ -1,21 +1,27 @@
 // The stair: its steps at both ends, rows that rise, counts of 32 bits, and a stair in use.
+use crate::operands::{ONE, lesson, room};
 use model::BitModel;
 use stair::{Refusal, Stair};
 use std::process::Abort;
 use std::test::Fail;
 
-const ONE: i64 = 1 << 57;
+// A row that falls by 1 from step to step.
+fn falling_from(top: u32) -> [u32; 64] {
+    let mut row = [top; 64];
+    for (count, k) in row.iter_mut().zip(0..64) {
+        *count = top.saturating_sub(k);
+    }
+    row
+}
 
 // Rows that fall by 1 from step to step.
 fn falling() -> [[u32; 64]; 4] {
-    let mut rows = [[0u32; 64]; 4];
-    for k in 0u32..64 {
-        rows[0][k as usize] = 4_000 - k;
-        rows[1][k as usize] = 3_000 - k;
-        rows[2][k as usize] = 2_000 - k;
-        rows[3][k as usize] = 1_000 - k;
-    }
-    rows
+    [
+        falling_from(4_000),
+        falling_from(3_000),
+        falling_from(2_000),
+        falling_from(1_000),
+    ]
 }
 
 #[test]
@@ -48,7 +54,7 @@ fn rises(rt: HostRuntime) {
     refused(&rt, 0, 63);
     refused(&rt, 1, 30);
     refused(&rt, 3, 63);
-    assert_eq!(rt; Refusal::Rises.number(), 34);
+    assert_eq!(rt; u8::from(Refusal::Rises), 34);
     let mut rows = falling();
     rows[3][63] = 1_000 - 62 + 1;
     assert_eq!(rt; Stair::new(rows).err(), Some(Refusal::Rises));
@@ -68,10 +74,10 @@ fn widest(rt: HostRuntime) -> Result<(), Fail> {
 fn example(rt: HostRuntime) -> Result<(), Fail> {
     let mut stair = Stair::new(falling())?;
     assert_eq!(rt; stair.predict(0, 2 * ONE), 4_000 - 32);
-    stair.learn(0, 1, 2 * ONE, true, 0);
+    stair.learn(lesson(0, 1, 2 * ONE, true, 0));
     assert_eq!(rt; stair.predict(0, 2 * ONE), 4_000 - 32, "nothing is learnt");
     assert_eq!(rt;
-        stair.trim(0, 2 * ONE, 0, 0, 1, false),
+        stair.trim(0, 2 * ONE, room(0, 0, 1, false)),
         2 * ONE,
         "nothing is trimmed"
     );

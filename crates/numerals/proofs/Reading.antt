@@ -1,12 +1,12 @@
 -- A reading of digits, as a test.
-use Rattle.std.proofs.Common.{◌≡◌, ℕ, zero, suc, ◌^◌, ◌<◌, ◌≤◌, Bool, true, false, ◌&&◌, ltb, List, [], ◌∷◌, length, get_or, ℤ, pos, negsuc, Some, Ok, Err, Decides, Result, refl, ap, arith, w64, SFits, Bor, rules}
+use Rattle.std.proofs.Common.{◌≡◌, ℕ, zero, suc, ◌^◌, ◌<◌, Bool, true, false, ◌&&◌, ltb, List, [], ◌∷◌, length, get_or, ℤ, pos, negsuc, Some, Ok, Err, Decides, Option, codes, Result, refl, ap, arith, w64, SFits, Bor, rules}
 use Rattle.std.specs.Result.{OkIff, result_ok}
 use Rattle.std.specs.Str.Parse.{IsNumeral, digits_value, without_leading_plus, without_leading_sign, signed_digits_value, ParsesUnsigned, ParsesSigned}
 use Rattle.std.specs.Str.{all_ascii_digits, bytes_eq}
 use Rattle.std.proofs.lemmas.Str.Parse.{IsNumeralModel, numerals_by_value, tells_all_ascii_digits}
 use Rattle.std.proofs.lemmas.Bool.{both_ways, and_parts, and_from, lt-ltb, ltb-true}
 use Rattle.std.proofs.lemmas.Slice.Eq.{bytes_eq-Decides}
-use Rattle.numerals.specs.Words.{texts, when, numeral, in_64, unsigned, signed}
+use Rattle.numerals.specs.Words.{texts, when, then, numeral, in_64, unsigned, signed, maybe}
 
 own : IsNumeralModel (λ ds. all_ascii_digits ds ≡ true) (digits_value 10)
 own = numerals_by_value _ tells_all_ascii_digits
@@ -49,13 +49,15 @@ texts_at [] i d l = absurd (omega (arith, l))
 texts_at (w ∷ ws) zero d l = refl
 texts_at (w ∷ ws) (suc i) d l = texts_at ws i d (omega (arith, l))
 
-pub past_end : (ws : List (List ℕ)) (i : ℕ) → length ws ≤ i → get_or ws i [] ≡ []
-past_end [] i l = refl
-past_end (w ∷ ws) zero l = absurd (omega (arith, l))
-past_end (w ∷ ws) (suc i) l = past_end ws i (omega (arith, l))
-
-pub texts_past : (ws : List (Bor (List ℕ))) (i : ℕ) → length ws ≤ i → get_or (texts ws) i [] ≡ []
-texts_past ws i l = past_end (texts ws) i (omega (arith, l, length_texts ws))
+pub texts_or : (ws : List (Bor (List ℕ))) (i : ℕ) (d : Bor (List ℕ)) → (get_or ws i d).now ≡ get_or (texts ws) i d.now
+texts_or [] i d = refl
+texts_or (w ∷ ws) zero d = refl
+texts_or (w ∷ ws) (suc i) d = texts_or ws i d
 
 pub unlike : (w v : List ℕ) → (w ≡ v → ⊥) → bytes_eq w v ≡ false
 unlike w v h = search (rules, bytes_eq-Decides w v)
+
+-- a word that is no dash is read
+pub read_word : {X : Type 0} (read : List ℕ → Option X) (w : List ℕ) (o : Option X) → (w ≡ codes "-" → ⊥) → o ≡ read w → then o (λ x. Some (Some x)) ≡ maybe read w
+unfolding maybe
+read_word read w o h e = rw (unlike w (codes "-") h, e) refl

@@ -35,6 +35,10 @@ signed w = when (numeral (without_leading_sign w) && in_64 (signed_digits_value 
 unfoldable pub mark_of : List ℕ → Option Bool
 mark_of w = cond (bytes_eq w (codes "0")) (Some false) (when (bytes_eq w (codes "1")) true)
 
+-- a dash says that a value is absent; any other word is read
+unfoldable pub maybe : {X : Type 0} → (List ℕ → Option X) → List ℕ → Option (Option X)
+maybe read w = cond (bytes_eq w (codes "-")) (Some None) (then (read w) (λ x. Some (Some x)))
+
 -- the bytes of each word of a list of references
 abbrev pub texts : List (Bor (List ℕ)) → List (List ℕ)
 texts [] = []

@@ -1,84 +1,80 @@
-// The number that a word writes, at each width that the programs read. A number is one digit or
+// The value that a word writes: a number at each width that the programs read, or a mark. A number is one digit or
 // more, perhaps with a sign before them; leading zeros count for nothing.
-ghost use Rattle.std.specs.Prelude.{◌≡◌, Bool, true, false, if◌then◌else◌, Some};
-ghost use Rattle.std.specs.Result.{result_ok};
-ghost use Rattle.numerals.specs.Words.{when, signed, unsigned, mark_of};
+ghost use Rattle.std.specs.Prelude.{◌≡◌, ℕ, List};
+ghost use Rattle.std.specs.declared.option.Option as option;
+ghost use Rattle.numerals.specs.Words.{maybe, signed, unsigned, mark_of};
 
-use std::num::ParseIntError;
+// A value that a word can write.
+pub trait FromWord: Sized {
+    // The value that the bytes of a word write, if they write one.
+    ghost written: { List ℕ → option.Option Self };
 
-// The signed number of 64 bits that a word writes, or why it writes none.
-fn read_i64(word: &str) -> Result<i64, ParseIntError>
-    ensures { result_ok result ≡ signed word.now }
-{
-    word.parse::<i64>()
+    // The value that the word writes; `None` for any other word.
+    fn from_word(word: &str) -> Option<Self>
+        ensures { result ≡ written word.now };
 }
 
-// The number of 8 bits that a word writes, or why it writes none.
-fn read_u8(word: &str) -> Result<u8, ParseIntError>
-    ensures { result_ok result ≡ unsigned 8 word.now }
-{
-    word.parse::<u8>()
-}
+// A number below 2^8, `+` in front or no sign.
+impl FromWord for u8 {
+    ghost written = { unsigned 8 };
 
-// As `read_u8`, of 32 bits.
-fn read_u32(word: &str) -> Result<u32, ParseIntError>
-    ensures { result_ok result ≡ unsigned 32 word.now }
-{
-    word.parse::<u32>()
-}
-
-// As `read_u8`, of 64 bits.
-fn read_u64(word: &str) -> Result<u64, ParseIntError>
-    ensures { result_ok result ≡ unsigned 64 word.now }
-{
-    word.parse::<u64>()
-}
-
-// The mark of a word that is `0`, or `1`, or neither.
-fn mark(zero: bool, one: bool) -> Option<bool>
-    ensures { result ≡ (if zero then Some false else when one true) }
-{
-    if zero {
-        Some(false)
-    } else if one {
-        Some(true)
-    } else {
-        None
+    #[tactic(auto, using(crate::proofs::Reading::unsigned_read))]
+    fn from_word(word: &str) -> Option<u8> {
+        word.parse::<u8>().ok()
     }
 }
 
-// The number from -2^63 to 2^63 - 1 that the word writes, `-` or `+` in front or no sign; `None`
-// for any other word.
-pub fn i64_of(word: &str) -> Option<i64>
-    ensures { result ≡ signed word.now }
-{
-    read_i64(word).ok()
+// The same below 2^32.
+impl FromWord for u32 {
+    ghost written = { unsigned 32 };
+
+    #[tactic(auto, using(crate::proofs::Reading::unsigned_read))]
+    fn from_word(word: &str) -> Option<u32> {
+        word.parse::<u32>().ok()
+    }
 }
 
-// The number below 2^8 that the word writes, `+` in front or no sign; `None` for any other word.
-pub fn u8_of(word: &str) -> Option<u8>
-    ensures { result ≡ unsigned 8 word.now }
-{
-    read_u8(word).ok()
+// The same below 2^64.
+impl FromWord for u64 {
+    ghost written = { unsigned 64 };
+
+    #[tactic(auto, using(crate::proofs::Reading::unsigned_read))]
+    fn from_word(word: &str) -> Option<u64> {
+        word.parse::<u64>().ok()
+    }
 }
 
-// As `u8_of`, below 2^32.
-pub fn u32_of(word: &str) -> Option<u32>
-    ensures { result ≡ unsigned 32 word.now }
-{
-    read_u32(word).ok()
+// A number from -2^63 to 2^63 - 1, `-` or `+` in front or no sign.
+impl FromWord for i64 {
+    ghost written = { signed };
+
+    #[tactic(auto, using(crate::proofs::Reading::signed_read))]
+    fn from_word(word: &str) -> Option<i64> {
+        word.parse::<i64>().ok()
+    }
 }
 
-// As `u8_of`, below 2^64.
-pub fn u64_of(word: &str) -> Option<u64>
-    ensures { result ≡ unsigned 64 word.now }
-{
-    read_u64(word).ok()
+// A mark: `0` is false and `1` is true, and no other word is one, as `01`.
+impl FromWord for bool {
+    ghost written = { mark_of };
+
+    fn from_word(word: &str) -> Option<bool> {
+        match word {
+            "0" => Some(false),
+            "1" => Some(true),
+            _ => None,
+        }
+    }
 }
 
-// The mark that the word writes: `0` is false and `1` is true; `None` for any other word, as `01`.
-pub fn mark_of(word: &str) -> Option<bool>
-    ensures { result ≡ mark_of word.now }
-{
-    mark(word == "0", word == "1")
+// A dash is none, and any other word is read as what may be absent.
+impl<T: FromWord + Drop> FromWord for Option<T> {
+    ghost written = { maybe T.written };
+
+    fn from_word(word: &str) -> Option<Option<T>> {
+        match word {
+            "-" => Some(None),
+            _ => Some(Some(T::from_word(word)?)),
+        }
+    }
 }

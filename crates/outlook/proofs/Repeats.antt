@@ -1,28 +1,15 @@
 -- Counting repeated entries by whole cycles, as the code does it.
-use Rattle.std.proofs.Common.{◌≡◌, ℕ, ◌+◌, ◌-◌, ◌*◌, ◌/◌, ◌%◌, ◌<◌, ◌≤◌, min, cond, eqb, List, length, take, sym, ap, ◌∙◌, subst, mul-le-mul_right, mod-lt, div-add-mod', div-mul-le_self, arith}
+use Rattle.std.proofs.Common.{◌≡◌, ℕ, ◌+◌, ◌-◌, ◌*◌, ◌/◌, ◌%◌, ◌<◌, ◌≤◌, cond, eqb, List, length, take, sym, ap, ◌∙◌, subst, arith}
 use Rattle.std.proofs.lemmas.List.{take-map}
 use Rattle.outlook.specs.declared.counts.Counts.{Counts}
 use Rattle.outlook.specs.declared.entry.Entry.{Entry}
 use Rattle.outlook.specs.Bytes.{front, repeated}
 use Rattle.outlook.specs.Counting.{tally, both, times, Within}
-use Rattle.outlook.specs.Entries.{bytes_of}
+use Rattle.outlook.specs.Entries.{byte_of, bytes_of}
 use Rattle.outlook.specs.EntriesLemmas.{length_bytes}
 use Rattle.outlook.specs.Tallies.{tally_within, parts_within}
 use Rattle.outlook.specs.Fronts.{front_short}
 use Rattle.outlook.specs.Cycles.{tally_repeated, repeated_few}
-
--- the whole cycles leave a unit to reach
-pub cycles_under : (m s u r : ℕ) → 0 < u → r ≡ min m ((u - 1) / s) → r * s < u
-cycles_under m s u r h e =
-    let le : r ≤ (u - 1) / s = omega arith in
-    omega (arith, mul-le-mul_right s le, div-mul-le_self (u - 1) s)
-
--- and one cycle more reaches it
-pub cycles_last : (m s u r : ℕ) → 0 < u → 0 < s → r ≡ min m ((u - 1) / s) → r < m → u ≤ r * s + s
-cycles_last m s u r h g e l =
-    let q : r ≡ (u - 1) / s = omega arith in
-    let d : r * s + (u - 1) % s ≡ u - 1 = ap (λ n. n * s + (u - 1) % s) q ∙ div-add-mod' (u - 1) s in
-    omega (arith, mod-lt (u - 1) g)
 
 -- what the code's figures come to: w whole cycles of n entries, and the rest of the front part
 Cycled : List ℕ → ℕ → ℕ → ℕ → Counts → Type 0
@@ -44,7 +31,7 @@ cycled es u w end cycle more rest h c le under last e m r =
     let all : Cycled xs u w (length es) cycle = subst (λ (a : Counts). Cycled xs u w (length es) a) (sym c) sized in
     ap (λ (a : Counts). both a rest) m
     ∙ ap (both (times w cycle)) r
-    ∙ ap (λ ys. both (times w cycle) (tally (front (u - w * cycle.shown) ys))) (sym (take-map (λ (d : Entry). d.byte) end es))
+    ∙ ap (λ ys. both (times w cycle) (tally (front (u - w * cycle.shown) ys))) (sym (take-map byte_of end es))
     ∙ ap (λ i. both (times w cycle) (tally (front (u - w * cycle.shown) (take i xs)))) e
     ∙ all le under last
 

@@ -14,6 +14,9 @@ pub walk_within : (es : List Entry) (i : ℕ) (a : Counts) → length es ≤ 409
 walk_within es i a h e =
     subst (λ (b : Counts). Within 4096 b) (sym e) (tally_within 4096 (take i (bytes_of es)) (omega (arith, length-take i (bytes_of es), length_bytes es)))
 
+pub one_within : (a : Counts) (x : ℕ) → a ≡ tally (x ∷ []) → Within 4096 a
+one_within a x e = subst (λ (b : Counts). Within 4096 b) (sym e) (tally_within 4096 (x ∷ []) (omega arith))
+
 -- an entry is one unit at most
 pub unit_most : (b : Bool) → cond b 1 0 ≤ 1
 unit_most true = omega arith

@@ -1,5 +1,6 @@
 -- What the byte of an entry says, and which front part of a list of entries is counted.
 use Rattle.std.specs.Prelude.{◌≡◌, ℕ, zero, suc, ◌-◌, ◌/◌, ◌%◌, Bool, true, cond, ◌&&◌, ◌||◌, List, [], ◌∷◌, ◌++◌, take, ◌==◌, nat_lt}
+use Rattle.std.specs.List.{list_all}
 
 -- bits 0 to 2 are the subtype: 0 I, 1 P, 2 B0, 3 B1, 4 the show of an existing frame
 abbrev pub subtype_of : ℕ → ℕ
@@ -27,8 +28,7 @@ Lawful x = is_lawful x ≡ true
 
 -- every entry is lawful
 abbrev pub all_lawful : List ℕ → Bool
-all_lawful [] = true
-all_lawful (x ∷ xs) = is_lawful x && all_lawful xs
+all_lawful xs = list_all is_lawful xs
 
 -- the shown entries among one
 abbrev pub unit : ℕ → ℕ

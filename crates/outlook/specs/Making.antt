@@ -1,11 +1,19 @@
 -- Which bytes make a list or a pattern, and what making answers.
 use Rattle.std.specs.Prelude.{◌≡◌, ℕ, cond, ◌&&◌, List, length, Some, None, Ok, Err, vec_items, Option, Result, nat_le}
+use Rattle.std.specs.Global.{Vec}
 use Rattle.outlook.specs.Bytes.{all_lawful}
 use Rattle.outlook.specs.Entries.{bytes_of}
+use Rattle.outlook.specs.declared.entry.Entry.{Entry}
 use Rattle.outlook.specs.declared.list.List.{List as Listed}
 use Rattle.outlook.specs.declared.pattern.Pattern.{Pattern}
+use Rattle.outlook.specs.declared.refusal.NotMade.{NotMade}
+use Rattle.outlook.specs.declared.refusal.NotMade.TheVariants.{Refused, NoMemory}
 use Rattle.outlook.specs.declared.refusal.Refusal.{Refusal}
-use Rattle.outlook.specs.declared.refusal.Refusal.TheVariants.{WrongLength, Unlawful, Memory}
+use Rattle.outlook.specs.declared.refusal.Refusal.TheVariants.{WrongLength, Unlawful}
+
+-- are there so many entries, at least and at most, and is every entry lawful? The first question that is answered no
+abbrev pub entries_question : ℕ → ℕ → List ℕ → Option Refusal
+entries_question least most xs = cond (nat_le least (length xs) && nat_le (length xs) most) (cond (all_lawful xs) None (Some Unlawful)) (Some WrongLength)
 
 -- has a list at most 4,096 entries, and is every entry lawful? The first question that is answered no refuses it
 abbrev pub list_question : List ℕ → Option Refusal
@@ -16,17 +24,24 @@ abbrev pub pattern_question : List ℕ → Option Refusal
 pattern_question xs = cond (nat_le 1 (length xs) && nat_le (length xs) 64) (cond (all_lawful xs) None (Some Unlawful)) (Some WrongLength)
 
 -- what making answers: the refusal of the question; else exactly the entries given, or want of memory
-abbrev pub Answered : Option Refusal → List ℕ → Result (List ℕ) Refusal → Type 0
-Answered (Some q) xs r = r ≡ Err q
+abbrev pub Answered : Option Refusal → List ℕ → Result (List ℕ) NotMade → Type 0
+Answered (Some q) xs r = r ≡ Err (Refused q)
 Answered None xs (Ok ys) = ys ≡ xs
-Answered None xs (Err e) = e ≡ Memory
+Answered None xs (Err e) = e ≡ NoMemory
+
+-- the bytes of what was made of entries
+abbrev pub bytes_in : {T : Type 0} → (T → List Entry) → Result T NotMade → Result (List ℕ) NotMade
+bytes_in entries (Ok o) = Ok (bytes_of (entries o))
+bytes_in entries (Err e) = Err e
+
+-- the bytes of entries that were read
+abbrev pub read : Result (Vec Entry) NotMade → Result (List ℕ) NotMade
+read r = bytes_in (λ v. vec_items v) r
 
 -- the entries of a list that was made
-abbrev pub listed : Result Listed Refusal → Result (List ℕ) Refusal
-listed (Ok o) = Ok (bytes_of (vec_items o.items))
-listed (Err e) = Err e
+abbrev pub listed : Result Listed NotMade → Result (List ℕ) NotMade
+listed r = bytes_in (λ o. vec_items o.items) r
 
 -- the entries of a pattern that was made, which are repeated
-abbrev pub patterned : Result Pattern Refusal → Result (List ℕ) Refusal
-patterned (Ok o) = Ok (bytes_of (vec_items o.items))
-patterned (Err e) = Err e
+abbrev pub patterned : Result Pattern NotMade → Result (List ℕ) NotMade
+patterned r = bytes_in (λ o. vec_items o.items) r

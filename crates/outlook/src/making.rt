@@ -1,15 +1,15 @@
 // Making outlooks from bytes, with the questions in their order.
-ghost use Rattle.std.specs.Prelude.{◌≡◌, true, length, vec_len, MatchResult};
+ghost use Rattle.std.specs.Prelude.{◌≡◌, ◌≤◌, false, vec_len, IfOk};
+ghost use Rattle.std.specs.Range.{range_inclusive_start, range_inclusive_end, range_inclusive_exhausted};
 ghost use Rattle.outlook.specs.Bytes.{all_lawful};
-ghost use Rattle.outlook.specs.Entries.{bytes_of};
-ghost use Rattle.outlook.specs.Making.{Answered, listed, list_question, patterned, pattern_question};
+ghost use Rattle.outlook.specs.Making.{Answered, entries_question, read, listed, list_question, patterned, pattern_question};
 
 use crate::entry::Entry;
 use crate::list::List;
 use crate::pattern::Pattern;
-use crate::reading::lawful;
-use crate::refusal::Refusal;
+use crate::refusal::{NotMade, Refusal};
 use std::alloc::Global;
+use std::ops::RangeInclusive;
 
 // The most entries of a list.
 const LIST_MOST: usize = 4096;
@@ -21,27 +21,32 @@ const PATTERN_LEAST: usize = 1;
 const PATTERN_MOST: usize = 64;
 
 // Is every byte that of an entry?
-fn each_lawful(bytes: &[u8]) -> bool
+fn all_lawful(bytes: &[u8]) -> bool
     ensures { result ≡ all_lawful bytes.now }
 {
-    for byte in bytes {
-        if !lawful(*byte) {
-            return false;
-        }
-    }
-    true
+    bytes.iter().all(|byte| Entry::try_from(*byte).is_ok())
 }
 
-// The entries of lawful bytes.
-fn entries_of(heap: Global, bytes: &[u8]) -> Result<Vec<Entry>, Refusal>
-    requires { all_lawful bytes.now ≡ true }
-    ensures { MatchResult result (λ v. (bytes_of v.items ≡ bytes.now) × (vec_len v ≡ length bytes.now)) (λ e. e ≡ Refusal.Memory) }
+// The entries with these bytes. Refused: fewer or more of them than the lengths hold (31), an entry that is not lawful
+// (32), in this order; then want of memory. So all bytes are asked before memory is taken, and each is read again.
+fn entries_of(
+    heap: Global,
+    bytes: &[u8],
+    lengths: RangeInclusive<usize>,
+) -> Result<Vec<Entry>, NotMade>
+    requires { range_inclusive_exhausted lengths ≡ false }
+    ensures answer { Answered (entries_question (range_inclusive_start lengths) (range_inclusive_end lengths) bytes.now) bytes.now (read result) }
+    ensures within { IfOk result (λ v. (range_inclusive_start lengths ≤ vec_len v) × (vec_len v ≤ range_inclusive_end lengths)) }
 {
-    let Ok(mut items) = Vec::with_capacity(heap, bytes.len()) else {
-        return Err(Refusal::Memory);
-    };
+    if !lengths.contains(&bytes.len()) {
+        return Err(NotMade::Refused(Refusal::WrongLength));
+    }
+    if !all_lawful(bytes) {
+        return Err(NotMade::Refused(Refusal::Unlawful));
+    }
+    let mut items = Vec::with_capacity(heap, bytes.len())?;
     for byte in bytes {
-        items.push_reserved(Entry { byte: *byte });
+        items.push_reserved(Entry::try_from(*byte).unwrap());
     }
     Ok(items)
 }
@@ -49,16 +54,10 @@ fn entries_of(heap: Global, bytes: &[u8]) -> Result<Vec<Entry>, Refusal>
 impl List {
     // The list with these entries. Refused: more than 4,096 entries (31), an entry that is not lawful (32), in this
     // order; then want of memory.
-    pub fn new(heap: Global, bytes: &[u8]) -> Result<List, Refusal>
+    pub fn new(heap: Global, bytes: &[u8]) -> Result<List, NotMade>
         ensures { Answered (list_question bytes.now) bytes.now (listed result) }
     {
-        if bytes.len() > LIST_MOST {
-            return Err(Refusal::WrongLength);
-        }
-        if !each_lawful(bytes) {
-            return Err(Refusal::Unlawful);
-        }
-        let items = entries_of(heap, bytes)?;
+        let items = entries_of(heap, bytes, 0..=LIST_MOST)?;
         Ok(List { items })
     }
 }
@@ -66,16 +65,10 @@ impl List {
 impl Pattern {
     // The pattern of these entries, repeated. Refused: no entry or more than 64 (31), an entry that is not lawful (32),
     // in this order; then want of memory.
-    pub fn new(heap: Global, bytes: &[u8]) -> Result<Pattern, Refusal>
+    pub fn new(heap: Global, bytes: &[u8]) -> Result<Pattern, NotMade>
         ensures { Answered (pattern_question bytes.now) bytes.now (patterned result) }
     {
-        if bytes.len() < PATTERN_LEAST || bytes.len() > PATTERN_MOST {
-            return Err(Refusal::WrongLength);
-        }
-        if !each_lawful(bytes) {
-            return Err(Refusal::Unlawful);
-        }
-        let items = entries_of(heap, bytes)?;
+        let items = entries_of(heap, bytes, PATTERN_LEAST..=PATTERN_MOST)?;
         Ok(Pattern { items })
     }
 }

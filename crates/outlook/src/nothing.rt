@@ -17,10 +17,6 @@ impl Outlook for NothingAhead {
     ghost lawful = { Prim.search rules };
 
     fn count(&self, _units: u32) -> Counts {
-        Counts {
-            kinds: [0, 0, 0, 0, 0],
-            frames: 0,
-            shown: 0,
-        }
+        Counts::default()
     }
 }

@@ -39,7 +39,7 @@ pub(crate) fn tally_repeated(entries: &[Entry], units: u32) -> Counts
     ensures bound { Within 4096 result }
 {
     if units == 0 {
-        return Counts::none();
+        return Counts::default();
     }
     let cycle = tally_front(entries, u32::MAX);
     let most = REPEATED / entries.len();

@@ -1,18 +1,11 @@
 // Counting entries one by one, and counts added and multiplied.
-ghost use Rattle.std.specs.Prelude.{◌≡◌, ◌*◌, ◌≤◌, [], ◌∷◌, length, if◌then◌else◌};
+ghost use Rattle.std.specs.Prelude.{◌≡◌, ◌*◌, ◌≤◌, [], ◌∷◌, length};
 ghost use Rattle.outlook.specs.Bytes.{front};
 ghost use Rattle.outlook.specs.Counting.{tally, both, times, Within};
-ghost use Rattle.outlook.specs.Entries.{bytes_of};
+ghost use Rattle.outlook.specs.Entries.{byte_of, bytes_of};
 
 use crate::counts::Counts;
-use crate::entry::Entry;
-use crate::reading::SEF;
-
-fn one_if(test: bool) -> u32
-    ensures { result ≡ (if test then 1 else 0) }
-{
-    if test { 1 } else { 0 }
-}
+use crate::entry::{Entry, SEF};
 
 fn product(n: u32, figure: u32) -> u32
     requires { (n ≤ 4096) × (figure ≤ 4096) }
@@ -22,32 +15,15 @@ fn product(n: u32, figure: u32) -> u32
 }
 
 impl Counts {
-    // The counts of nothing.
-    pub(crate) fn none() -> Counts
-        ensures { result ≡ tally [] }
-    {
-        Counts {
-            kinds: [0, 0, 0, 0, 0],
-            frames: 0,
-            shown: 0,
-        }
-    }
-
     // The counts of one entry.
     fn of_one(entry: Entry) -> Counts
-        ensures { result ≡ tally (entry.byte ∷ []) }
+        ensures { result ≡ tally (byte_of entry ∷ []) }
     {
         let subtype = entry.subtype();
         Counts {
-            kinds: [
-                one_if(subtype == 0),
-                one_if(subtype == 1),
-                one_if(subtype == 2),
-                one_if(subtype == 3),
-                one_if(subtype == SEF),
-            ],
-            frames: one_if(subtype < SEF),
-            shown: one_if(entry.is_shown()),
+            kinds: std::array::from_fn(|kind| (kind == subtype as usize) as u32),
+            frames: (subtype < SEF) as u32,
+            shown: entry.is_shown() as u32,
         }
     }
 
@@ -57,13 +33,7 @@ impl Counts {
         ensures { result ≡ both self other }
     {
         Counts {
-            kinds: [
-                self.kinds[0] + other.kinds[0],
-                self.kinds[1] + other.kinds[1],
-                self.kinds[2] + other.kinds[2],
-                self.kinds[3] + other.kinds[3],
-                self.kinds[4] + other.kinds[4],
-            ],
+            kinds: std::array::from_fn(|kind| self.kinds[kind] + other.kinds[kind]),
             frames: self.frames + other.frames,
             shown: self.shown + other.shown,
         }
@@ -75,13 +45,7 @@ impl Counts {
         ensures { result ≡ times n self }
     {
         Counts {
-            kinds: [
-                product(n, self.kinds[0]),
-                product(n, self.kinds[1]),
-                product(n, self.kinds[2]),
-                product(n, self.kinds[3]),
-                product(n, self.kinds[4]),
-            ],
+            kinds: std::array::from_fn(|kind| product(n, self.kinds[kind])),
             frames: product(n, self.frames),
             shown: product(n, self.shown),
         }
@@ -94,7 +58,7 @@ pub(crate) fn tally_front(entries: &[Entry], units: u32) -> Counts
     ensures value { result ≡ tally (front units (bytes_of entries.now)) }
     ensures bound { Within 4096 result }
 {
-    let mut all = Counts::none();
+    let mut all = Counts::default();
     for entry in entries {
         if all.shown == units {
             return all;

@@ -5,4 +5,4 @@ mod planes;
 mod sampling;
 
 pub use planes::{ChromaOffset, chroma_offset, luma_log};
-pub use sampling::ChromaSampling;
+pub use sampling::{ChromaSampling, NoSuchSampling};

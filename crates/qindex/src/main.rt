@@ -1,11 +1,15 @@
 // Answers questions about logarithms and quantizers, one to a line, from standard input to
-// standard output. What is read and answered is `queries`; here it is only passed on.
+// standard output. What is read and answered is `queries`, and what a program does is `command`; here
+// they are only put together.
 #![tactic(auto)]
 
-use queries::{Query, answer_to, queries};
-use std::io::{BufWriter, Read, Write};
+use command::{Program, run, stop};
+use queries::{Outcome, Query, answer_to, queries};
+use std::io;
+use std::io::{BufWriter, Write};
 use std::process::ExitCode;
-use std::{env, io};
+
+const NAME: &str = "qindex";
 
 const HELP: &str =
     "qindex: reads questions from standard input, one to a line, and answers each on a line.
@@ -27,72 +31,34 @@ Answers: a number; 'dc=A,B,C ac=A,B,C scales=X' or 'scales=X,Y,Z' for quantizer;
 program with status 1 before anything is answered; standard error then says which and why.
 ";
 
-// What the arguments ask for.
-#[derive(Drop)]
-enum Task {
-    Answer,
-    Help,
-    Unknown(String),
-}
+// The program.
+struct Qindex;
 
-fn task_of(rt: &HostRuntime) -> io::Result<Task> {
-    let mut task = Task::Answer;
-    for arg in env::args(rt)?.skip(1) {
-        if arg.as_str() != "--help" {
-            return Ok(Task::Unknown(arg));
+impl Program for Qindex {
+    const NAME: &'static str = NAME;
+
+    const HELP: &'static str = HELP;
+
+    fn answer<R: Print + Eprint + AllocGlobal>(rt: &R, bytes: &[u8]) -> anyhow::Result<ExitCode> {
+        match queries(rt.alloc(), bytes) {
+            Ok(all) => {
+                answer_all(rt, all.as_slice())?;
+                Ok(ExitCode::SUCCESS)
+            }
+            Err(wrong) => stop(rt, NAME, &wrong),
         }
-        task = Task::Help;
     }
-    Ok(task)
 }
 
-fn answer_all(rt: &HostRuntime, all: &[Query]) -> io::Result<()> {
-    let mut out = BufWriter::new(rt.alloc(), rt.stdout())?;
+fn answer_all<R: Print + AllocGlobal>(rt: &R, all: &[Query]) -> io::Result<()> {
+    let mut out = BufWriter::new(rt.alloc(), io::writer(rt))?;
     for query in all {
-        let answer = answer_to(*query);
-        writeln!(out, "{answer}")?;
+        let outcome = Outcome(answer_to(*query));
+        writeln!(out, "{outcome}")?;
     }
     out.flush()
 }
 
-// Whether all was answered; what stopped it has been told.
-fn answer(rt: &HostRuntime) -> anyhow::Result<bool> {
-    let heap = rt.alloc();
-    let mut bytes = Vec::new(heap);
-    rt.stdin().read_to_end(&mut bytes)?;
-    match queries(heap, bytes.as_slice()) {
-        Ok(all) => {
-            answer_all(rt, all.as_slice())?;
-            Ok(true)
-        }
-        Err(wrong) => {
-            eprintln!(rt; "qindex: {wrong}")?;
-            Ok(false)
-        }
-    }
-}
-
-fn work(rt: &HostRuntime) -> anyhow::Result<bool> {
-    match task_of(rt)? {
-        Task::Answer => answer(rt),
-        Task::Help => {
-            rt.print(HELP)?;
-            Ok(true)
-        }
-        Task::Unknown(arg) => {
-            eprintln!(rt; "qindex: unknown argument '{arg}' (try --help)")?;
-            Ok(false)
-        }
-    }
-}
-
 fn main(rt: HostRuntime) -> anyhow::Result<ExitCode> {
-    match work(&rt) {
-        Ok(true) => Ok(ExitCode::SUCCESS),
-        Ok(false) => Ok(ExitCode::FAILURE),
-        Err(e) => {
-            eprintln!(rt; "qindex: {e}")?;
-            Ok(ExitCode::FAILURE)
-        }
-    }
+    run::<Qindex, HostRuntime>(&rt)
 }

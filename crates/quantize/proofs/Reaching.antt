@@ -56,15 +56,14 @@ lawful logBase target d s intra mean most = record {
   exact = scales_exact target (luma_log target d s intra) mean s;
 }
 
--- a quantizer by its parts
+-- a quantizer by its parts, and what holds of it
 pub whole : (logBase target : ℤ) (d : Depth) (s : ChromaSampling) (intra : Bool) (mean : ℤ) (r : QuantizerParameters)
     → r.log_base_q ≡ logBase → r.log_target_q ≡ target
     → r.dc_qi ≡ dc_of (luma_log target d s intra) d s mean → r.ac_qi ≡ ac_of (luma_log target d s intra) d s mean
-    → r.scales ≡ scales_of target (luma_log target d s intra) mean s → r ≡ parameters_of logBase target d s intra mean
+    → r.scales ≡ scales_of target (luma_log target d s intra) mean s
+    → luma_index (luma_log target d s intra) d mean ≤ 255
+    → (r ≡ parameters_of logBase target d s intra mean) × Lawful s r
 unfolding parameters_of
-whole logBase target d s intra mean r b t dc ac sc =
-    let e : ◌≡◌ {A = QuantizerParameters} (record { log_base_q = r.log_base_q; log_target_q = r.log_target_q; dc_qi = r.dc_qi; ac_qi = r.ac_qi; scales = r.scales }) (parameters_of logBase target d s intra mean) = rw (b, t, dc, ac, sc) in
-    e
-
-pub whole_lawful : (logBase target : ℤ) (d : Depth) (s : ChromaSampling) (intra : Bool) (mean : ℤ) (r : QuantizerParameters) → luma_index (luma_log target d s intra) d mean ≤ 255 → r ≡ parameters_of logBase target d s intra mean → Lawful s r
-whole_lawful logBase target d s intra mean r most e = subst (Lawful s) (sym e) (lawful logBase target d s intra mean most)
+whole logBase target d s intra mean r b t dc ac sc most =
+    let e : r ≡ parameters_of logBase target d s intra mean = rw (b, t, dc, ac, sc) in
+    (e, subst (Lawful s) (sym e) (lawful logBase target d s intra mean most))

@@ -2,9 +2,11 @@
 use Rattle.std.specs.Prelude.{◌≡◌, ℕ, ◌+◌, ◌-◌, ◌<◌, ◌≤◌, min, max, ℤ, pos, Float}
 use Rattle.logexp.specs.Held.{◌⊕◌, ◌⊖◌, ◌⊗◌}
 use Rattle.logexp.specs.LogExp.{bexp64}
+use Rattle.tables.specs.declared.coefficient.Coefficient.{Coefficient}
+use Rattle.tables.specs.declared.coefficient.Coefficient.TheVariants.{Dc, Ac}
 use Rattle.tables.specs.declared.depth.Depth.{Depth}
 use Rattle.tables.specs.Choice.{index}
-use Rattle.tables.specs.Depths.{dc_table, ac_table, doublings, depth_log}
+use Rattle.tables.specs.Depths.{table, doublings, depth_log}
 use Rattle.quantize.specs.Scale.{quotient, kept}
 
 -- how far an index may lie from the luma AC index
@@ -32,15 +34,19 @@ scale_of target q = quotient (kept (bexp64 ((target ⊖ q) ⊗ pos 2 ⊕ doublin
 
 -- the luma AC index of luma's log y: at least 1
 abbrev pub luma_index : ℤ → Depth → ℤ → ℕ
-luma_index y d mean = max 1 (index (ac_table d) (plane_quantizer y d mean))
+luma_index y d mean = max 1 (index (table Ac d) (plane_quantizer y d mean))
 
--- the DC index of a plane with the log q, beside the luma AC index a
+-- the index of a plane with the log q in the table of a coefficient, beside the luma AC index a
+abbrev pub plane_index : Coefficient → ℕ → ℤ → Depth → ℤ → ℕ
+plane_index c a q d mean = within a (index (table c d) (plane_quantizer q d mean))
+
+-- the DC index of a plane
 abbrev pub dc_index : ℕ → ℤ → Depth → ℤ → ℕ
-dc_index a q d mean = within a (index (dc_table d) (plane_quantizer q d mean))
+dc_index a q d mean = plane_index Dc a q d mean
 
--- the AC index of a chroma plane with the log q, beside the luma AC index a
+-- the AC index of a chroma plane
 abbrev pub ac_index : ℕ → ℤ → Depth → ℤ → ℕ
-ac_index a q d mean = within a (index (ac_table d) (plane_quantizer q d mean))
+ac_index a q d mean = plane_index Ac a q d mean
 
 -- an index r may go with the luma AC index a
 pub record GoesWith (a r : ℕ) : Type 0 where

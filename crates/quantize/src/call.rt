@@ -1,18 +1,13 @@
-// The quantizer of a frame by raw numbers; a bad depth or sampling is refused.
+// The quantizer of a frame by raw numbers; a bad depth or sampling is refused. They are numbers here, since this call
+// is for callers that have not asked yet; `QuantizerParameters::of` is for those that have.
 ghost use Rattle.std.specs.Prelude.{◌≡◌};
 ghost use Rattle.quantize.specs.Answer.{Lawful};
-ghost use Rattle.quantize.specs.Call.{sampling_asked, quantizer_answer, AtSampling};
+ghost use Rattle.quantize.specs.Call.{quantizer_answer, AtSampling};
 
 use crate::answer::QuantizerParameters;
 use planes::ChromaSampling;
-use raw_tables::{Refusal, depth_of};
-
-// The sampling with that code, or refusal 5.
-fn sampling_of(chroma_sampling: u8) -> Result<ChromaSampling, Refusal>
-    ensures { result ≡ sampling_asked chroma_sampling }
-{
-    ChromaSampling::from_code(chroma_sampling).ok_or(Refusal::NoSuchSampling)
-}
+use raw_tables::Refusal;
+use tables::Depth;
 
 impl QuantizerParameters {
     // The quantizer of a frame with the log `log_target_q`, as `of` has it.
@@ -28,8 +23,8 @@ impl QuantizerParameters {
         ensures value { result ≡ quantizer_answer log_base_q log_target_q bit_depth chroma_sampling is_intra log_isqrt_mean_scale }
         ensures lawful { AtSampling chroma_sampling result (λ s. Lawful s) }
     {
-        let depth = depth_of(bit_depth)?;
-        let sampling = sampling_of(chroma_sampling)?;
+        let depth = Depth::try_from(bit_depth)?;
+        let sampling = ChromaSampling::try_from(chroma_sampling)?;
         Ok(QuantizerParameters::of(
             log_base_q,
             log_target_q,

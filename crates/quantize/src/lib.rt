@@ -1,9 +1,9 @@
 // AV1's quantizer: the calls with raw numbers, and the indexes and plane scales of a frame from its log
 // quantizer. It rests on `logexp`, `tables`, `raw_tables` and `planes`.
 //
-// `ac_q`, `dc_q`, `select_ac_qi`, `select_dc_qi` and `QuantizerParameters::new_from_log_q` take raw numbers
-// and refuse a bad one. The methods of `tables::Depth`, and `QuantizerParameters::of`, are the same for a depth and
-// a sampling that are known, for crates above that have asked already.
+// `q`, `select_qi` and `QuantizerParameters::new_from_log_q` take raw numbers and refuse a bad one. The methods of
+// `tables::Depth`, and `QuantizerParameters::of`, are the same for a depth and a sampling that are known, for
+// crates above that have asked already.
 #![tactic(auto)]
 
 pub mod answer;
@@ -15,5 +15,5 @@ mod scale;
 
 pub use answer::{QuantizerParameters, Refusal, Scales};
 pub use laws::{figures_stand, reach_stands, scales_stand};
-pub use raw_tables::{ac_q, dc_q, select_ac_qi, select_dc_qi};
-pub use sampling::ChromaSampling;
+pub use raw_tables::{Coefficient, q, select_qi};
+pub use sampling::{ChromaSampling, NoSuchSampling};

@@ -1,13 +1,13 @@
 // The indexes and scales of a frame, for a depth and a sampling that are known.
 ghost use Rattle.std.specs.Prelude.{◌≡◌};
-ghost use Rattle.quantize.specs.Indexes.{within, plane_quantizer, scale_of, dc_index, ac_index, luma_index};
+ghost use Rattle.quantize.specs.Indexes.{within, plane_quantizer, scale_of, plane_index, luma_index};
 ghost use Rattle.quantize.specs.Answer.{parameters_of, Lawful};
 
 use crate::answer::{QuantizerParameters, Scales};
 use crate::scale::plane_scale;
 use logexp::bexp64;
 use planes::{ChromaSampling, chroma_offset, luma_log};
-use tables::Depth;
+use tables::{Coefficient, Depth};
 
 // How far an index may lie from the luma AC index: AV1's delta fields have six bits and a sign.
 const REACH: u8 = 63;
@@ -19,14 +19,6 @@ fn clamp_qi(qi: u8, a: u8) -> u8
     qi.clamp(a.saturating_sub(REACH).max(1), a.saturating_add(REACH))
 }
 
-// The quantizer of a plane with a log, in the scale of the tables.
-fn plane_quantizer(log_q: i64, depth: Depth, mean: i64) -> i64
-    ensures { result ≡ plane_quantizer log_q depth mean }
-{
-    let scale = mean.saturating_add(depth.log_scale());
-    bexp64(log_q.saturating_add(scale))
-}
-
 // The scale of a plane with a log: the square of the ratio of the frame's quantizer to the plane's.
 fn scale_of(log_target_q: i64, log_q: i64) -> f64
     ensures { result ≡ scale_of log_target_q log_q }
@@ -35,25 +27,37 @@ fn scale_of(log_target_q: i64, log_q: i64) -> f64
     plane_scale(bexp64(twice.saturating_add(16 << 57)))
 }
 
-fn dc_index(a: u8, log_q: i64, depth: Depth, mean: i64) -> u8
-    ensures { result ≡ dc_index a log_q depth mean }
-{
-    clamp_qi(depth.select_dc_qi(plane_quantizer(log_q, depth, mean)), a)
+// What the indexes of a frame are chosen at: its bit depth, and what is added to the log of each plane's quantizer.
+#[derive(Clone, Copy)]
+struct Scaling {
+    depth: Depth,
+    mean: i64,
 }
 
-fn ac_index(a: u8, log_q: i64, depth: Depth, mean: i64) -> u8
-    ensures { result ≡ ac_index a log_q depth mean }
-{
-    clamp_qi(depth.select_ac_qi(plane_quantizer(log_q, depth, mean)), a)
-}
+impl Scaling {
+    // The quantizer of a plane with a log, in the scale of the tables.
+    fn plane_quantizer(self, log_q: i64) -> i64
+        ensures { result ≡ plane_quantizer log_q self.depth self.mean }
+    {
+        let scale = self.mean.saturating_add(self.depth.log_scale());
+        bexp64(log_q.saturating_add(scale))
+    }
 
-// The luma AC index, at least 1.
-fn luma_index(log_q: i64, depth: Depth, mean: i64) -> u8
-    ensures { result ≡ luma_index log_q depth mean }
-{
-    depth
-        .select_ac_qi(plane_quantizer(log_q, depth, mean))
-        .max(1)
+    // The index of a plane with a log in the table of a coefficient, beside the luma AC index a.
+    fn plane_index(self, coefficient: Coefficient, a: u8, log_q: i64) -> u8
+        ensures { result ≡ plane_index coefficient a log_q self.depth self.mean }
+    {
+        let quantizer = self.plane_quantizer(log_q);
+        clamp_qi(self.depth.select_qi(coefficient, quantizer), a)
+    }
+
+    // The luma AC index, at least 1.
+    fn luma_index(self, log_q: i64) -> u8
+        ensures { result ≡ luma_index log_q self.depth self.mean }
+    {
+        let quantizer = self.plane_quantizer(log_q);
+        self.depth.select_qi(Coefficient::Ac, quantizer).max(1)
+    }
 }
 
 impl QuantizerParameters {
@@ -70,13 +74,16 @@ impl QuantizerParameters {
         ensures value { result ≡ parameters_of log_base_q log_target_q depth sampling is_intra log_isqrt_mean_scale }
         ensures lawful { Lawful sampling result }
     {
-        let mean = log_isqrt_mean_scale;
+        let scaling = Scaling {
+            depth,
+            mean: log_isqrt_mean_scale,
+        };
         let log_q_y = luma_log(log_target_q, depth, sampling, is_intra);
-        let offset = chroma_offset(log_q_y.saturating_add(mean), sampling);
+        let offset = chroma_offset(log_q_y.saturating_add(log_isqrt_mean_scale), sampling);
         let log_q_u = log_q_y.saturating_add(offset.u);
         let log_q_v = log_q_y.saturating_add(offset.v);
-        let a = luma_index(log_q_y, depth, mean);
-        let dc_y = dc_index(a, log_q_y, depth, mean);
+        let a = scaling.luma_index(log_q_y);
+        let dc_y = scaling.plane_index(Coefficient::Dc, a, log_q_y);
         let scale_y = scale_of(log_target_q, log_q_y);
         if sampling.is_monochrome() {
             return QuantizerParameters {
@@ -92,13 +99,13 @@ impl QuantizerParameters {
             log_target_q,
             dc_qi: [
                 dc_y,
-                dc_index(a, log_q_u, depth, mean),
-                dc_index(a, log_q_v, depth, mean),
+                scaling.plane_index(Coefficient::Dc, a, log_q_u),
+                scaling.plane_index(Coefficient::Dc, a, log_q_v),
             ],
             ac_qi: [
                 a,
-                ac_index(a, log_q_u, depth, mean),
-                ac_index(a, log_q_v, depth, mean),
+                scaling.plane_index(Coefficient::Ac, a, log_q_u),
+                scaling.plane_index(Coefficient::Ac, a, log_q_v),
             ],
             scales: Scales::Colour(
                 scale_y,

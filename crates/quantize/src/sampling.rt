@@ -1,2 +1,2 @@
 // How chroma is sampled, passed on from `planes`.
-pub use planes::ChromaSampling;
+pub use planes::{ChromaSampling, NoSuchSampling};

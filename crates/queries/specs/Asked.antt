@@ -1,21 +1,23 @@
 -- What the words of a line ask: the name, and then operands of their types, as many as it takes.
 use Rattle.std.specs.Prelude.{ℕ, cond, List, [], length, ℤ, Some, None, codes, Option, ◌==◌, slice_index_or}
 use Rattle.std.specs.Str.{bytes_eq}
+use Rattle.tables.specs.declared.coefficient.Coefficient.{Coefficient}
+use Rattle.tables.specs.declared.coefficient.Coefficient.TheVariants.{Dc, Ac}
 use Rattle.words.specs.Words.{then, unsigned, signed, mark_of}
 use Rattle.queries.specs.declared.query.Query.{Query}
-use Rattle.queries.specs.declared.query.Query.TheVariants.{Blog64, Bexp64, AcQ, DcQ, SelectAcQi, SelectDcQi, Quantizer}
+use Rattle.queries.specs.declared.query.Query.TheVariants.{Blog64, Bexp64, Q, SelectQi, Quantizer}
 
 -- one operand: a signed number of 64 bits
-abbrev pub one_signed : List (List ℕ) → (ℤ → Query) → Option Query
-one_signed ws f = cond (length ws == 2) (then (signed (slice_index_or ws 1 [])) (λ n. Some (f n))) None
+abbrev pub one_signed : List (List ℕ) → Option ℤ
+one_signed ws = cond (length ws == 2) (signed (slice_index_or ws 1 [])) None
 
--- two operands: each a byte
-abbrev pub two_bytes : List (List ℕ) → (ℕ → ℕ → Query) → Option Query
-two_bytes ws f = cond (length ws == 3) (then (unsigned 8 (slice_index_or ws 1 [])) (λ d. then (unsigned 8 (slice_index_or ws 2 [])) (λ i. Some (f d i)))) None
+-- two operands of an entry: the depth and the index, each a byte
+abbrev pub q : Coefficient → List (List ℕ) → Option Query
+q c ws = cond (length ws == 3) (then (unsigned 8 (slice_index_or ws 1 [])) (λ d. then (unsigned 8 (slice_index_or ws 2 [])) (λ i. Some (Q c d i)))) None
 
--- two operands: a byte and a signed number of 64 bits
-abbrev pub byte_signed : List (List ℕ) → (ℕ → ℤ → Query) → Option Query
-byte_signed ws f = cond (length ws == 3) (then (unsigned 8 (slice_index_or ws 1 [])) (λ d. then (signed (slice_index_or ws 2 [])) (λ q. Some (f d q)))) None
+-- two operands of a choice: the depth, a byte, and the quantizer, a signed number of 64 bits
+abbrev pub select_qi : Coefficient → List (List ℕ) → Option Query
+select_qi c ws = cond (length ws == 3) (then (unsigned 8 (slice_index_or ws 1 [])) (λ d. then (signed (slice_index_or ws 2 [])) (λ n. Some (SelectQi c d n)))) None
 
 -- five operands: the log quantizer, depth, sampling, whether the frame is intra, and the mean
 abbrev pub quantizer : List (List ℕ) → Option Query
@@ -31,10 +33,10 @@ quantizer ws =
 -- the question that the words of a line ask, if they ask one
 abbrev pub asked : List (List ℕ) → Option Query
 asked ws =
-    cond (bytes_eq (slice_index_or ws 0 []) (codes "blog64")) (one_signed ws (λ n. Blog64 n))
-    (cond (bytes_eq (slice_index_or ws 0 []) (codes "bexp64")) (one_signed ws (λ x. Bexp64 x))
-    (cond (bytes_eq (slice_index_or ws 0 []) (codes "ac_q")) (two_bytes ws (λ d i. AcQ d i))
-    (cond (bytes_eq (slice_index_or ws 0 []) (codes "dc_q")) (two_bytes ws (λ d i. DcQ d i))
-    (cond (bytes_eq (slice_index_or ws 0 []) (codes "select_ac_qi")) (byte_signed ws (λ d q. SelectAcQi d q))
-    (cond (bytes_eq (slice_index_or ws 0 []) (codes "select_dc_qi")) (byte_signed ws (λ d q. SelectDcQi d q))
+    cond (bytes_eq (slice_index_or ws 0 []) (codes "blog64")) (then (one_signed ws) (λ n. Some (Blog64 n)))
+    (cond (bytes_eq (slice_index_or ws 0 []) (codes "bexp64")) (then (one_signed ws) (λ x. Some (Bexp64 x)))
+    (cond (bytes_eq (slice_index_or ws 0 []) (codes "ac_q")) (q Ac ws)
+    (cond (bytes_eq (slice_index_or ws 0 []) (codes "dc_q")) (q Dc ws)
+    (cond (bytes_eq (slice_index_or ws 0 []) (codes "select_ac_qi")) (select_qi Ac ws)
+    (cond (bytes_eq (slice_index_or ws 0 []) (codes "select_dc_qi")) (select_qi Dc ws)
     (cond (bytes_eq (slice_index_or ws 0 []) (codes "quantizer")) (quantizer ws) None))))))

@@ -2,8 +2,8 @@
 use Rattle.std.specs.Prelude.{◌≡◌, ℕ, suc, ◌<◌, Bool, false, List, [], ◌∷◌, ◌++◌, length, take, Some, None, Option, slice_index_or}
 use Rattle.words.specs.Words.{then}
 use Rattle.words.specs.Lines.{words_in, lines_in, TextOf}
-use Rattle.queries.specs.declared.fault.Fault as fault
-use Rattle.queries.specs.declared.fault.Fault.TheVariants.{Malformed, NotText, NoMemory}
+use Rattle.operands.specs.declared.fault.Fault as fault
+use Rattle.operands.specs.declared.fault.Fault.TheVariants.{Malformed, NotText, NoMemory}
 use Rattle.queries.specs.declared.query.Query.{Query}
 use Rattle.queries.specs.Asked.{asked}
 
@@ -42,8 +42,6 @@ ToldWrong ls whole n NoMemory = Unit {0}
 abbrev pub WrongIn : List ℕ → ℕ → fault.Fault → Type 0
 WrongIn bs n e = (text : List ℕ) × (whole : Bool) × TextOf bs text whole × ToldWrong (lines_in text) whole n e
 
--- why one line is told as wrong: it is malformed; want of memory says nothing
-abbrev pub LineTold : List ℕ → fault.Fault → Type 0
-LineTold line (Malformed m) = line_asks line ≡ None
-LineTold line NotText = ⊥
-LineTold line NoMemory = Unit {0}
+-- the questions so far and the one that the words of a line ask, if they ask one
+abbrev pub asks_more : List (List ℕ) → List Query → Option (List Query)
+asks_more ws qs = then (asked ws) (λ q. Some (qs ++ (q ∷ [])))

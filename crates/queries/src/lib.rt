@@ -1,12 +1,12 @@
+// Questions about logarithms and quantizers, from their bytes, and their answers. It rests on `words`
+// and `operands` for the text, and on `logexp` and `quantize` for what is answered.
 #![tactic(auto)]
 
 mod answer;
-mod fault;
 mod lines;
-mod operands;
 mod query;
 
-pub use answer::{Answer, answer_to};
-pub use fault::{Fault, Kind, Malformed, Wrong};
+pub use answer::{Answer, Outcome, answer_to};
 pub use lines::queries;
+pub use operands::{Fault, Kind, Malformed, Wanted, Wrong};
 pub use query::{Query, query_of};

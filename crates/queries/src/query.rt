@@ -2,12 +2,11 @@
 ghost use Rattle.std.specs.Prelude.{◌≡◌};
 ghost use Rattle.std.specs.Result.{result_ok};
 ghost use Rattle.words.specs.Words.{texts};
-ghost use Rattle.queries.specs.Asked.{one_signed, two_bytes, byte_signed, quantizer, asked};
-ghost use Rattle.queries.specs.declared.query.Query.TheVariants.{Blog64, Bexp64, AcQ, DcQ, SelectAcQi, SelectDcQi};
+ghost use Rattle.operands.specs.Line.{words_of};
+ghost use Rattle.queries.specs.Asked.{one_signed, q, select_qi, quantizer, asked};
 
-use crate::fault::Malformed;
-use crate::operands::{byte_at, check_count, mark_at, signed_at};
-use words::word_at;
+use operands::{Malformed, Operands};
+use quantize::Coefficient;
 
 // A question. Depths, samplings and indexes are any bytes here: a bad one is refused by its answer.
 #[derive(Clone, Copy, Debug, PartialEq)]
@@ -16,23 +15,15 @@ pub enum Query {
     Blog64(i64),
     // The binary exponential of a logarithm in Q57.
     Bexp64(i64),
-    // The AC entry of an index.
-    AcQ {
+    // The entry of an index in the table of a coefficient.
+    Q {
+        coefficient: Coefficient,
         depth: u8,
         index: u8,
     },
-    // The DC entry of an index.
-    DcQ {
-        depth: u8,
-        index: u8,
-    },
-    // The index whose AC entry stands for a quantizer.
-    SelectAcQi {
-        depth: u8,
-        q: i64,
-    },
-    // The index whose DC entry stands for a quantizer.
-    SelectDcQi {
+    // The index that stands for a quantizer in the table of a coefficient.
+    SelectQi {
+        coefficient: Coefficient,
         depth: u8,
         q: i64,
     },
@@ -46,71 +37,63 @@ pub enum Query {
     },
 }
 
-fn blog64<'a>(words: &[&'a str]) -> Result<Query, Malformed<'a>>
-    ensures { result_ok result ≡ one_signed (texts words.now) (λ n. Blog64 n) }
+// The only operand, a signed number, which is told as `which`.
+fn one_signed<'a>(words: Operands<'_, 'a>, which: &'static str) -> Result<i64, Malformed<'a>>
+    ensures { result_ok result ≡ one_signed (words_of words.entry) }
 {
-    check_count(words, 2, "N")?;
-    Ok(Query::Blog64(signed_at(words, 1)?))
+    words.takes(1, which)?;
+    words.at(1)
 }
 
-fn bexp64<'a>(words: &[&'a str]) -> Result<Query, Malformed<'a>>
-    ensures { result_ok result ≡ one_signed (texts words.now) (λ x. Bexp64 x) }
+fn q<'a>(words: Operands<'_, 'a>, coefficient: Coefficient) -> Result<Query, Malformed<'a>>
+    ensures { result_ok result ≡ q coefficient (words_of words.entry) }
 {
-    check_count(words, 2, "X")?;
-    Ok(Query::Bexp64(signed_at(words, 1)?))
-}
-
-fn ac_q<'a>(words: &[&'a str]) -> Result<Query, Malformed<'a>>
-    ensures { result_ok result ≡ two_bytes (texts words.now) (λ d i. AcQ d i) }
-{
-    check_count(words, 3, "DEPTH INDEX")?;
-    Ok(Query::AcQ {
-        depth: byte_at(words, 1)?,
-        index: byte_at(words, 2)?,
+    words.takes(2, "DEPTH INDEX")?;
+    Ok(Query::Q {
+        coefficient,
+        depth: words.at(1)?,
+        index: words.at(2)?,
     })
 }
 
-fn dc_q<'a>(words: &[&'a str]) -> Result<Query, Malformed<'a>>
-    ensures { result_ok result ≡ two_bytes (texts words.now) (λ d i. DcQ d i) }
+fn select_qi<'a>(words: Operands<'_, 'a>, coefficient: Coefficient) -> Result<Query, Malformed<'a>>
+    ensures { result_ok result ≡ select_qi coefficient (words_of words.entry) }
 {
-    check_count(words, 3, "DEPTH INDEX")?;
-    Ok(Query::DcQ {
-        depth: byte_at(words, 1)?,
-        index: byte_at(words, 2)?,
+    words.takes(2, "DEPTH Q")?;
+    Ok(Query::SelectQi {
+        coefficient,
+        depth: words.at(1)?,
+        q: words.at(2)?,
     })
 }
 
-fn select_ac_qi<'a>(words: &[&'a str]) -> Result<Query, Malformed<'a>>
-    ensures { result_ok result ≡ byte_signed (texts words.now) (λ d q. SelectAcQi d q) }
+fn quantizer<'a>(words: Operands<'_, 'a>) -> Result<Query, Malformed<'a>>
+    ensures { result_ok result ≡ quantizer (words_of words.entry) }
 {
-    check_count(words, 3, "DEPTH Q")?;
-    Ok(Query::SelectAcQi {
-        depth: byte_at(words, 1)?,
-        q: signed_at(words, 2)?,
-    })
-}
-
-fn select_dc_qi<'a>(words: &[&'a str]) -> Result<Query, Malformed<'a>>
-    ensures { result_ok result ≡ byte_signed (texts words.now) (λ d q. SelectDcQi d q) }
-{
-    check_count(words, 3, "DEPTH Q")?;
-    Ok(Query::SelectDcQi {
-        depth: byte_at(words, 1)?,
-        q: signed_at(words, 2)?,
-    })
-}
-
-fn quantizer<'a>(words: &[&'a str]) -> Result<Query, Malformed<'a>>
-    ensures { result_ok result ≡ quantizer (texts words.now) }
-{
-    check_count(words, 6, "LOG_Q DEPTH SAMPLING INTRA MEAN")?;
+    words.takes(5, "LOG_Q DEPTH SAMPLING INTRA MEAN")?;
     Ok(Query::Quantizer {
-        log_q: signed_at(words, 1)?,
-        depth: byte_at(words, 2)?,
-        sampling: byte_at(words, 3)?,
-        is_intra: mark_at(words, 4)?,
-        mean: signed_at(words, 5)?,
+        log_q: words.at(1)?,
+        depth: words.at(2)?,
+        sampling: words.at(3)?,
+        is_intra: words.at(4)?,
+        mean: words.at(5)?,
     })
+}
+
+// The question that the words ask, as `query_of` says.
+pub(crate) fn asked<'a>(words: Operands<'_, 'a>) -> Result<Query, Malformed<'a>>
+    ensures { result_ok result ≡ asked (words_of words.entry) }
+{
+    match words.name() {
+        "blog64" => Ok(Query::Blog64(one_signed(words, "N")?)),
+        "bexp64" => Ok(Query::Bexp64(one_signed(words, "X")?)),
+        "ac_q" => q(words, Coefficient::Ac),
+        "dc_q" => q(words, Coefficient::Dc),
+        "select_ac_qi" => select_qi(words, Coefficient::Ac),
+        "select_dc_qi" => select_qi(words, Coefficient::Dc),
+        "quantizer" => quantizer(words),
+        _ => Err(words.unknown("question")),
+    }
 }
 
 // The question that the words of a line ask, or the first thing that is wrong with them: the name,
@@ -118,14 +101,5 @@ fn quantizer<'a>(words: &[&'a str]) -> Result<Query, Malformed<'a>>
 pub fn query_of<'a>(words: &[&'a str]) -> Result<Query, Malformed<'a>>
     ensures { result_ok result ≡ asked (texts words.now) }
 {
-    match word_at(words, 0) {
-        "blog64" => blog64(words),
-        "bexp64" => bexp64(words),
-        "ac_q" => ac_q(words),
-        "dc_q" => dc_q(words),
-        "select_ac_qi" => select_ac_qi(words),
-        "select_dc_qi" => select_dc_qi(words),
-        "quantizer" => quantizer(words),
-        name => Err(Malformed::Unknown(name)),
-    }
+    asked(Operands::new(words))
 }

@@ -1,23 +1,24 @@
 -- The answers of a script's runs.
-use Rattle.std.specs.Prelude.{ℕ, Bool, List, [], ℤ, Some, None, Ok, Err, Option, Result}
+use Rattle.std.specs.Prelude.{ℕ, List, [], Some, None, Ok, Err, Option, Result}
 use Rattle.std.specs.List.{slice_get}
+use Rattle.model.specs.Meaning.{Meaning}
 use Rattle.calls.specs.declared.answer.Answer.{Answer}
 use Rattle.calls.specs.declared.call.Call.{Call}
 use Rattle.controller.specs.declared.state.Core.{Core}
 use Rattle.controller.specs.Opening.{opened}
-use Rattle.model.specs.Curves.{curve_of, curve_count, curve_trimmed, curve_next}
+use Rattle.model.specs.Curves.{curve_of, curve_meaning}
 use Rattle.model.specs.declared.refusal.Refusal.{Refusal}
 use Rattle.model.specs.declared.settings.Settings.{Settings}
 use Rattle.outlook.specs.Either.{entries_known}
 use Rattle.outlook.specs.declared.known.Known.{Known}
 use Rattle.run.specs.Answers.{answers_to}
-use Rattle.stair.specs.Stairs.{stair_count}
+use Rattle.stair.specs.Stairs.{stair_meaning}
 use Rattle.stair.specs.declared.stair.Stair.{Stair}
 
-module _ {M : Type 0} (count : M → ℕ → ℤ → ℕ) (trimmed : M → ℕ → ℤ → ℤ → ℤ → ℤ → Bool → ℤ) (next : M → ℕ → ℕ → ℤ → Bool → ℕ → M) (outlooks : List Known) (model : M) (calls : List Call) where
+module _ {M : Type 0} (meaning : Meaning M) (outlooks : List Known) (model : M) (calls : List Call) where
   -- the answers to the calls of a run that opens with a core; none where its opening is refused
   abbrev pub answers_from : Result Core Refusal → List Answer
-  answers_from (Ok core) = answers_to count trimmed next entries_known outlooks (record { core = core; model = model }) calls
+  answers_from (Ok core) = answers_to meaning entries_known outlooks (record { core = core; model = model }) calls
   answers_from (Err e) = []
 
   -- the answers to the calls of a run with some settings
@@ -31,5 +32,5 @@ stair_at stairs (Some i) = slice_get stairs i
 
 -- the answers of a run over a stair, or over a curve where there is none
 abbrev pub model_answers : Option Stair → List Known → Settings → List Call → List Answer
-model_answers (Some st) os s cs = run_answers (λ (m : Stair) k q. stair_count m.rows k q) (λ m k q f c l h. q) (λ m k b q t n. m) os st cs s
-model_answers None os s cs = run_answers curve_count curve_trimmed curve_next os (curve_of s) cs s
+model_answers (Some st) os s cs = run_answers stair_meaning os st cs s
+model_answers None os s cs = run_answers curve_meaning os (curve_of s) cs s

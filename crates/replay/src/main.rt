@@ -1,16 +1,19 @@
 // Replays a script of calls from standard input, and writes a line for each of its lines to standard output. What is
-// read is `scripts`, what is run is `run`, what is written is `replies`; here it is only passed on.
+// read is `scripts`, what is run is `run`, what is written is `replies`, and what a program does is `command`; here
+// they are only put together.
 #![tactic(auto)]
 
 mod player;
 
-use anyhow::anyhow;
+use command::{Program, run, stop};
 use player::Player;
 use replies::{Reply, play};
 use scripts::{Script, script_of};
-use std::io::{BufWriter, Read, Write};
+use std::io;
+use std::io::{BufWriter, Write};
 use std::process::ExitCode;
-use std::{env, io};
+
+const NAME: &str = "replay";
 
 const HELP: &str =
     "replay: reads a script of calls of the rate control from standard input, and tells what each comes to.
@@ -34,81 +37,39 @@ or 'closed' for a call while no run is open. Logs have 2^57 steps to a doubling.
 anything is run; standard error then says which and why.
 ";
 
-// What the arguments ask for.
-#[derive(Drop)]
-enum Task {
-    Replay,
-    Help,
-    Unknown(String),
-}
+// The program.
+struct Replay;
 
-fn task_of(rt: &HostRuntime) -> io::Result<Task> {
-    let mut task = Task::Replay;
-    for arg in env::args(rt)?.skip(1) {
-        if arg.as_str() != "--help" {
-            return Ok(Task::Unknown(arg));
+impl Program for Replay {
+    const NAME: &'static str = NAME;
+
+    const HELP: &'static str = HELP;
+
+    fn answer<R: Print + Eprint + AllocGlobal>(rt: &R, bytes: &[u8]) -> anyhow::Result<ExitCode> {
+        match script_of(rt.alloc(), bytes) {
+            Ok(script) => {
+                replay_script(rt, &script)?;
+                Ok(ExitCode::SUCCESS)
+            }
+            Err(wrong) => stop(rt, NAME, &wrong),
         }
-        task = Task::Help;
     }
-    Ok(task)
 }
 
-fn write_all(rt: &HostRuntime, replies: &[Reply]) -> io::Result<()> {
-    let mut out = BufWriter::new(rt.alloc(), rt.stdout())?;
+fn write_all<R: Print + AllocGlobal>(rt: &R, replies: &[Reply]) -> io::Result<()> {
+    let mut out = BufWriter::new(rt.alloc(), io::writer(rt))?;
     for reply in replies {
         writeln!(out, "{reply}")?;
     }
     out.flush()
 }
 
-fn replay_script(rt: &HostRuntime, script: &Script) -> anyhow::Result<()> {
-    match play(rt.alloc(), &Player { script }, script.lines.as_slice()) {
-        Ok(replies) => {
-            write_all(rt, replies.as_slice())?;
-            Ok(())
-        }
-        Err(_) => Err(anyhow!("no memory to run the script")),
-    }
-}
-
-// Whether all was replayed; what stopped it has been told.
-fn replay(rt: &HostRuntime) -> anyhow::Result<bool> {
-    let heap = rt.alloc();
-    let mut bytes = Vec::new(heap);
-    rt.stdin().read_to_end(&mut bytes)?;
-    match script_of(heap, bytes.as_slice()) {
-        Ok(script) => {
-            replay_script(rt, &script)?;
-            Ok(true)
-        }
-        Err(wrong) => {
-            eprintln!(rt; "replay: {wrong}")?;
-            Ok(false)
-        }
-    }
-}
-
-fn work(rt: &HostRuntime) -> anyhow::Result<bool> {
-    match task_of(rt)? {
-        Task::Replay => replay(rt),
-        Task::Help => {
-            rt.print(HELP)?;
-            Ok(true)
-        }
-        Task::Unknown(arg) => {
-            eprintln!(rt; "replay: unknown argument '{arg}' (try --help)")?;
-            Ok(false)
-        }
-    }
+fn replay_script<R: Print + AllocGlobal>(rt: &R, script: &Script) -> anyhow::Result<()> {
+    let replies = play(rt.alloc(), &Player { script }, script.lines.as_slice())?;
+    write_all(rt, replies.as_slice())?;
+    Ok(())
 }
 
 fn main(rt: HostRuntime) -> anyhow::Result<ExitCode> {
-    match work(&rt) {
-        Ok(true) => Ok(ExitCode::SUCCESS),
-        Ok(false) => Ok(ExitCode::FAILURE),
-        Err(e) => {
-            eprintln!(rt; "replay: {e}")?;
-            Ok(ExitCode::FAILURE)
-        }
-    }
+    run::<Replay, HostRuntime>(&rt)
 }

@@ -25,16 +25,11 @@ fn answers_by<M: BitModel + Drop>(
     outlooks: &[Known],
     calls: &[Call],
 ) -> Result<Vec<Answer>, NoMemory>
-    ensures { IfOk result (λ v. v.items ≡ run_answers M.BitModel.count M.BitModel.trimmed M.BitModel.next outlooks.now model calls.now settings.now) }
+    ensures { IfOk result (λ v. v.items ≡ run_answers M.meaning outlooks.now model calls.now settings.now) }
 {
     match run(heap, settings, model, outlooks, calls) {
-        Ok(
-            Run {
-                controller: _,
-                answers,
-            },
-        ) => Ok(answers),
-        Err(NotRun { fault, model: _ }) => match fault {
+        Ok(Run { answers, .. }) => Ok(answers),
+        Err(NotRun { fault, .. }) => match fault {
             Fault::Opening(_) => Ok(Vec::new(heap)),
             Fault::Memory => Err(NoMemory),
         },
@@ -45,10 +40,7 @@ fn answers_by<M: BitModel + Drop>(
 fn stair_at(stairs: &[Stair], place: Option<usize>) -> Option<Stair>
     ensures { result ≡ stair_at stairs.now place }
 {
-    match place {
-        Some(i) => stairs.get(i).copied(),
-        None => None,
-    }
+    stairs.get(place?).copied()
 }
 
 impl Runner for Player<'_> {

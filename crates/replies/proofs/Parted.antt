@@ -12,7 +12,7 @@ use Rattle.replies.specs.Played.{Runs, begun, had, block_answers, played}
 module _ (run : Runs) where
   -- what a line leaves, once its answers are known
   step : Standing → Line → List Line → List Answer → List Reply
-  step s l ls xs = replied l (next_answer l xs) ∷ played run (after s l) (left (call_of 0 l) xs) ls
+  step s l ls xs = replied l (next_answer l xs) ∷ played run (after s l) (left (call_of None l) xs) ls
 
   -- the lines up to the next opening are replied by the answers that are left, and what is left then does not matter
   Parts : List Line → ℕ → Type 0
@@ -25,23 +25,23 @@ module _ (run : Runs) where
   had_as s l ls xs o e = ap (λ (p : Option Settings). begun p (λ q. run q s.stair (calls_of s (l ∷ take (until_open ls) ls))) xs) e
 
   parted_line : (l : Line) (ls : List Line) (o : Option Settings) → opening_of l ≡ o → Parts ls (until_open ls) → Parts (l ∷ ls) (cond (is_some o) 0 (suc (until_open ls)))
-  unfolding Parts step played replies_of stands
+  unfolding Parts step played replies_of
   parted_line l ls None e h s xs =
-      ap (step s l ls) (had_as s l ls xs None e) ∙ ap (λ (rs : List Reply). replied l (next_answer l xs) ∷ rs) (h (after s l) (left (call_of 0 l) xs))
+      ap (step s l ls) (had_as s l ls xs None e) ∙ ap (λ (rs : List Reply). replied l (next_answer l xs) ∷ rs) (h (after s l) (left (call_of None l) xs))
   parted_line l ls (Some o) e h s xs = ap (step s l ls) (had_as s l ls xs (Some o) e ∙ sym (had_as s l ls [] (Some o) e))
 
   parted : (ls : List Line) → Parts ls (until_open ls)
-  unfolding Parts played replies_of stands until_open
+  unfolding Parts played replies_of until_open
   parted [] s xs = refl
   parted (l ∷ ls) s xs = parted_line l ls (opening_of l) refl (parted ls) s xs
 
   -- one block
   pub played_block : (s : Standing) (ls : List Line) → played run s [] ls
       ≡ replies_of (take (block_length ls) ls) (block_answers run s (take (block_length ls) ls)) ++ played run (stands s (take (block_length ls) ls)) [] (drop (block_length ls) ls)
-  unfolding Parts played replies_of stands
+  unfolding Parts played replies_of
   played_block s [] = refl
   played_block s (l ∷ ls) =
-      ap (λ (rs : List Reply). replied l (next_answer l (had run s l ls [])) ∷ rs) (parted ls (after s l) (left (call_of 0 l) (had run s l ls [])))
+      ap (λ (rs : List Reply). replied l (next_answer l (had run s l ls [])) ∷ rs) (parted ls (after s l) (left (call_of None l) (had run s l ls [])))
 
   -- one block more, and none
   pub played_more : (ls block later : List Line) (s t : Standing) (rs qs r : List Reply) → block ≡ take (block_length ls) ls → later ≡ drop (block_length ls) ls

@@ -1,37 +1,33 @@
 -- Walks over the lines of a script and over the answers to their calls.
-use Rattle.std.proofs.Common.{◌≡◌, ℕ, suc, ◌+◌, ◌<◌, ◌≤◌, true, false, List, [], ◌∷◌, ◌++◌, length, get_or, drop, Some, None, Option, sym, refl, ap, ◌∙◌, append_assoc, append-nil, arith}
-use Rattle.std.proofs.lemmas.List.{at_drop_more, at_drop_all, drop-drop}
+use Rattle.std.proofs.Common.{◌≡◌, ℕ, suc, ◌+◌, ◌<◌, ◌≤◌, nat_lt, Bool, true, false, cond, List, [], ◌∷◌, ◌++◌, length, get_or, drop, Some, None, Option, sym, refl, ap, ◌∙◌, append_assoc, append-nil, arith}
+use Rattle.std.proofs.lemmas.List.{at_drop_more, at_drop_all}
+use Rattle.std.specs.List.{cons_option, position, position_or_len}
+use Rattle.std.specs.Option.{option_to_list, unwrap_or}
+use Rattle.std.proofs.lemmas.Bool.Decides.{nat_tests}
+use Rattle.std.proofs.lemmas.List.Sums.{prefix_len-le-length}
+use Rattle.std.proofs.lemmas.List.Recursion.{is_position_or_len}
 use Rattle.calls.specs.declared.answer.Answer.{Answer}
 use Rattle.calls.specs.declared.call.Call.{Call}
 use Rattle.scripts.specs.declared.line.Line.{Line}
 use Rattle.replies.specs.declared.reply.Reply.{Reply}
 use Rattle.replies.specs.declared.standing.Standing.{Standing}
-use Rattle.replies.specs.Blocks.{after, stands, call_of, before, calls_of, opens, until_open, block_length}
-use Rattle.replies.specs.Replied.{replied, first, rest, left, next_answer, replies_of}
+use Rattle.replies.specs.Blocks.{after, call_of, calls_of, opens, until_open, block_length}
+use Rattle.replies.specs.Replied.{replied, left, next_answer, replies_of}
 
--- one line more stands
-pub stands_more : (ls : List Line) (i : ℕ) (d : Line) (s t r : Standing) → i < length ls → t ≡ after s (get_or ls i d) → stands s (drop i ls) ≡ r → stands t (drop (i + 1) ls) ≡ r
-unfolding stands
-stands_more ls i d s t r l e h = ap (λ (u : Standing). stands u (drop (i + 1) ls)) e ∙ sym (at_drop_more (stands s) ls i d l) ∙ h
-
-pub stands_all : (ls : List Line) (i : ℕ) (s r : Standing) → length ls ≤ i → stands s (drop i ls) ≡ r → s ≡ r
-unfolding stands
-stands_all ls i s r l h = sym (at_drop_all (stands s) ls i l) ∙ h
-
-before_append : (o : Option Call) (cs : List Call) → before o [] ++ cs ≡ before o cs
-before_append None cs = refl
-before_append (Some c) cs = refl
+call_before : (o : Option Call) (cs : List Call) → option_to_list o ++ cs ≡ cons_option o cs
+call_before None cs = refl
+call_before (Some c) cs = refl
 
 -- one line more makes its call
 pub calls_more : (ls : List Line) (i : ℕ) (d : Line) (s t : Standing) (o : Option Call) (cs ds r : List Call) → i < length ls → t ≡ after s (get_or ls i d)
-    → o ≡ call_of s.outlook (get_or ls i d) → ds ≡ cs ++ before o [] → cs ++ calls_of s (drop i ls) ≡ r → ds ++ calls_of t (drop (i + 1) ls) ≡ r
+    → o ≡ call_of s.outlook (get_or ls i d) → ds ≡ cs ++ option_to_list o → cs ++ calls_of s (drop i ls) ≡ r → ds ++ calls_of t (drop (i + 1) ls) ≡ r
 unfolding calls_of
 calls_more ls i d s t o cs ds r l e m k h =
     ap (λ (xs : List Call). xs ++ calls_of t (drop (i + 1) ls)) k
-    ∙ append_assoc cs (before o []) (calls_of t (drop (i + 1) ls))
-    ∙ ap (λ (xs : List Call). cs ++ xs) (before_append o (calls_of t (drop (i + 1) ls)))
-    ∙ ap (λ (p : Option Call). cs ++ before p (calls_of t (drop (i + 1) ls))) m
-    ∙ ap (λ (u : Standing). cs ++ before (call_of s.outlook (get_or ls i d)) (calls_of u (drop (i + 1) ls))) e
+    ∙ append_assoc cs (option_to_list o) (calls_of t (drop (i + 1) ls))
+    ∙ ap (λ (xs : List Call). cs ++ xs) (call_before o (calls_of t (drop (i + 1) ls)))
+    ∙ ap (λ (p : Option Call). cs ++ cons_option p (calls_of t (drop (i + 1) ls))) m
+    ∙ ap (λ (u : Standing). cs ++ cons_option (call_of s.outlook (get_or ls i d)) (calls_of u (drop (i + 1) ls))) e
     ∙ sym (at_drop_more (λ (xs : List Line). cs ++ calls_of s xs) ls i d l)
     ∙ h
 
@@ -41,7 +37,7 @@ calls_all ls i s cs r l h = sym (append-nil cs) ∙ sym (at_drop_all (λ (xs : L
 
 -- one line more is replied
 pub replies_more : (ls : List Line) (i : ℕ) (d : Line) (o : Option Answer) (zs bs : List Answer) (y : Reply) (rs ts r : List Reply) → i < length ls
-    → y ≡ replied (get_or ls i d) o → o ≡ next_answer (get_or ls i d) zs → bs ≡ left (call_of 0 (get_or ls i d)) zs → ts ≡ rs ++ (y ∷ [])
+    → y ≡ replied (get_or ls i d) o → o ≡ next_answer (get_or ls i d) zs → bs ≡ left (call_of None (get_or ls i d)) zs → ts ≡ rs ++ (y ∷ [])
     → rs ++ replies_of (drop i ls) zs ≡ r → ts ++ replies_of (drop (i + 1) ls) bs ≡ r
 unfolding replies_of
 replies_more ls i d o zs bs y rs ts r l e a b k h =
@@ -57,37 +53,29 @@ pub replies_all : (ls : List Line) (i : ℕ) (zs : List Answer) (rs r : List Rep
 unfolding replies_of
 replies_all ls i zs rs r l h = sym (append-nil rs) ∙ sym (at_drop_all (λ (xs : List Line). rs ++ replies_of xs zs) ls i l) ∙ h
 
--- the line at a place opens a run, or does not, or there is none
-pub until_here : (ls : List Line) (i : ℕ) (d : Line) → i < length ls → opens (get_or ls i d) ≡ true → until_open (drop i ls) ≡ 0
+-- the lines before the next opening are those before the first that opens a run
+until_step : (b : Bool) (n : ℕ) → cond b 0 (suc n) ≡ cond b 0 (1 + n)
+until_step true n = refl
+until_step false n = omega arith
+
+until_nil : until_open [] ≡ 0
 unfolding until_open
-until_here ls i d l e = at_drop_more until_open ls i d l ∙ rw e refl
+until_nil = refl
 
-pub until_more : (ls : List Line) (i : ℕ) (d : Line) → i < length ls → opens (get_or ls i d) ≡ false → until_open (drop i ls) ≡ suc (until_open (drop (i + 1) ls))
+until_cons : (l : Line) (ls : List Line) → until_open (l ∷ ls) ≡ cond (opens l) 0 (1 + until_open ls)
 unfolding until_open
-until_more ls i d l e = at_drop_more until_open ls i d l ∙ rw e refl
+until_cons l ls = until_step (opens l) (until_open ls)
 
-pub until_all : (ls : List Line) (i : ℕ) → length ls ≤ i → until_open (drop i ls) ≡ 0
-unfolding until_open
-until_all ls i l = at_drop_all until_open ls i l
+until_open_is : (ls : List Line) → until_open ls ≡ position_or_len opens ls
+until_open_is ls = is_position_or_len until_open opens until_nil until_cons ls
 
--- no lines are a block of none
-pub whole : (ls : List Line) → (0 < length ls → block_length ls ≡ length ls) → length ls ≡ block_length ls
-whole [] h = refl
-whole (l ∷ ls) h = sym (h (omega arith))
+place_or_len : (n m : ℕ) → n ≤ m → unwrap_or (cond (nat_lt n m) (Some n) None) m ≡ n
+place_or_len n m h = grind (arith, nat_tests)
 
--- the first answer and those after it, at a place
-pub first_at : (zs : List Answer) (i : ℕ) (d : Answer) → i < length zs → first (drop i zs) ≡ Some (get_or zs i d)
-first_at zs i d l = at_drop_more first zs i d l
-
-pub first_past : (zs : List Answer) (i : ℕ) → length zs ≤ i → first (drop i zs) ≡ None
-first_past zs i l = at_drop_all first zs i l
-
-rest_is_drop : (zs : List Answer) → rest zs ≡ drop 1 zs
-rest_is_drop [] = refl
-rest_is_drop (a ∷ zs) = refl
-
-pub rest_at : (zs : List Answer) (i : ℕ) → rest (drop i zs) ≡ drop (i + 1) zs
-rest_at zs i = rest_is_drop (drop i zs) ∙ drop-drop 1 i zs
-
-pub rest_past : (zs : List Answer) (i : ℕ) → length zs ≤ i → rest (drop i zs) ≡ drop i zs
-rest_past zs i l = at_drop_all rest zs i l ∙ sym (at_drop_all (λ (xs : List Answer). xs) zs i l)
+-- the first line, and those before the next opening
+pub block_of : (ls later : List Line) (l : Line) (o : Option ℕ) (n : ℕ) → ls ≡ l ∷ later → o ≡ position opens later → n ≡ unwrap_or o (length later) → 1 + n ≡ block_length ls
+block_of ls later l o n e p u =
+    let le : position_or_len opens later ≤ length later = prefix_len-le-length _ later in
+    let q : n ≡ until_open later = u ∙ ap (λ (r : Option ℕ). unwrap_or r (length later)) p ∙ place_or_len _ _ le ∙ sym (until_open_is later) in
+    let s : 1 + n ≡ suc (until_open later) = omega arith in
+    s ∙ ap block_length (sym e)

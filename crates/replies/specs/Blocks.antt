@@ -1,27 +1,26 @@
 -- What stands at a line of a script, which lines belong together, and the calls that they make.
-use Rattle.std.specs.Prelude.{ℕ, suc, ◌-◌, ◌^◌, Bool, cond, List, [], ◌∷◌, is_some, Some, None, Option}
+use Rattle.std.specs.Prelude.{ℕ, suc, ◌-◌, ◌^◌, Bool, cond, List, [], ◌∷◌, is_some, Some, None, Ok, Err, Option, Result}
+use Rattle.std.specs.List.{cons_option, fold}
 use Rattle.calls.specs.declared.call.Call.{Call}
 use Rattle.calls.specs.declared.call.Call.TheVariants as call
 use Rattle.model.specs.declared.settings.Settings.{Settings}
 use Rattle.scripts.specs.declared.line.Line.{Line}
 use Rattle.scripts.specs.declared.line.Line.TheVariants.{Curve, Stair, List as Listed, Pattern, Open, Choose, Trial, Report, Withdraw, Show, Status}
-use Rattle.scripts.specs.declared.line.Made.{Made}
-use Rattle.scripts.specs.declared.line.Made.TheVariants.{At, Refused}
 use Rattle.replies.specs.declared.standing.Standing.{Standing}
 
--- at first an outlook stands that no script has, since no list is as long as 2^64 - 1, and the curve
+-- at first no outlook stands, and the curve
 abbrev pub at_first : Standing
-at_first = record { outlook = 2 ^ 64 - 1; stair = None }
+at_first = record { outlook = None; stair = None }
 
 -- a stair that was made stands from there on
-abbrev pub with_stair : Standing → Made → Standing
-with_stair s (At k) = record { outlook = s.outlook; stair = Some k }
-with_stair s (Refused n) = s
+abbrev pub with_stair : {E : Type 0} → Standing → Result ℕ E → Standing
+with_stair s (Ok k) = record { outlook = s.outlook; stair = Some k }
+with_stair s (Err e) = s
 
 -- an outlook that was made stands from there on
-abbrev pub with_outlook : Standing → Made → Standing
-with_outlook s (At k) = record { outlook = k; stair = s.stair }
-with_outlook s (Refused n) = s
+abbrev pub with_outlook : {E : Type 0} → Standing → Result ℕ E → Standing
+with_outlook s (Ok k) = record { outlook = Some k; stair = s.stair }
+with_outlook s (Err e) = s
 
 -- what stands after a line
 abbrev pub after : Standing → Line → Standing
@@ -38,33 +37,33 @@ after s Show = s
 after s Status = s
 
 -- what stands after some lines
-unfoldable pub stands : Standing → List Line → Standing
-stands s [] = s
-stands s (l ∷ ls) = stands (after s l) ls
+abbrev pub stands : Standing → List Line → Standing
+stands s ls = fold after s ls
+
+-- the place that a recorded choice names: where no outlook stands, one that no script has, since no list is as long as
+-- 2^64 - 1
+abbrev pub place_of : Option ℕ → ℕ
+place_of None = 2 ^ 64 - 1
+place_of (Some k) = k
 
 -- the call that a line makes where an outlook stands: an opening asks for the status
-abbrev pub call_of : ℕ → Line → Option Call
+abbrev pub call_of : Option ℕ → Line → Option Call
 call_of o Curve = None
 call_of o (Stair m) = None
 call_of o (Listed m) = None
 call_of o (Pattern m) = None
 call_of o (Open s) = Some call.Status
-call_of o (Choose k p m) = Some (call.Choose k o p m)
+call_of o (Choose k p m) = Some (call.Choose k (place_of o) p m)
 call_of o (Trial t b) = Some (call.Trial t b)
 call_of o (Report t b v d) = Some (call.Report t b v d)
 call_of o (Withdraw t) = Some (call.Withdraw t)
 call_of o Show = Some call.Show
 call_of o Status = Some call.Status
 
--- a call, if there is one, before the later ones
-abbrev pub before : Option Call → List Call → List Call
-before None cs = cs
-before (Some c) cs = c ∷ cs
-
 -- the calls that some lines make, each with the outlook that stands at its line
 unfoldable pub calls_of : Standing → List Line → List Call
 calls_of s [] = []
-calls_of s (l ∷ ls) = before (call_of s.outlook l) (calls_of (after s l) ls)
+calls_of s (l ∷ ls) = cons_option (call_of s.outlook l) (calls_of (after s l) ls)
 
 -- the settings of a line that opens a run
 abbrev pub opening_of : Line → Option Settings

@@ -30,4 +30,4 @@ had run s l ls xs = begun (opening_of l) (λ o. run o s.stair (calls_of s (l ∷
 unfoldable pub played : Runs → Standing → List Answer → List Line → List Reply
 played run s xs [] = []
 played run s xs (l ∷ ls) =
-    replied l (next_answer l (had run s l ls xs)) ∷ played run (after s l) (left (call_of 0 l) (had run s l ls xs)) ls
+    replied l (next_answer l (had run s l ls xs)) ∷ played run (after s l) (left (call_of None l) (had run s l ls xs)) ls

@@ -1,18 +1,16 @@
 -- What a line is replied.
-use Rattle.std.specs.Prelude.{List, [], ◌∷◌, Some, None, Ok, Err, Option, Result}
-use Rattle.calls.specs.Numbers.{number}
+use Rattle.std.specs.Prelude.{ℕ, List, [], ◌∷◌, Some, None, Ok, Err, Option, Result}
 use Rattle.calls.specs.declared.answer.Answer.{Answer}
 use Rattle.calls.specs.declared.answer.Answer.TheVariants as answer
 use Rattle.calls.specs.declared.call.Call.{Call}
 use Rattle.model.specs.Questions.{accepted}
-use Rattle.model.specs.Questions as questions
 use Rattle.model.specs.declared.refusal.Refusal.{Refusal}
 use Rattle.model.specs.declared.settings.Accepted.{Accepted}
 use Rattle.model.specs.declared.settings.Settings.{Settings}
 use Rattle.scripts.specs.declared.line.Line.{Line}
 use Rattle.scripts.specs.declared.line.Line.TheVariants as line
-use Rattle.scripts.specs.declared.line.Made.{Made}
-use Rattle.scripts.specs.declared.line.Made.TheVariants as made
+use Rattle.replies.specs.declared.reason.Reason.{Reason}
+use Rattle.replies.specs.declared.reason.Reason.TheVariants as reason
 use Rattle.replies.specs.declared.reply.Name.{Name}
 use Rattle.replies.specs.declared.reply.Name.TheVariants.{Curve, Stair, List as Listed, Pattern, Open, Choose, Trial, Report, Withdraw, Show, Status}
 use Rattle.replies.specs.declared.reply.Reply.{Reply}
@@ -33,15 +31,15 @@ name_of (line.Withdraw t) = Withdraw
 name_of line.Show = Show
 name_of line.Status = Status
 
--- an outlook or a stair was made, or refused with a number
-abbrev pub made_as : Name → Made → Reply
-made_as n (made.At k) = Took n
-made_as n (made.Refused k) = Refused n k
+-- an outlook or a stair was made, or refused
+abbrev pub made_as : {E : Type 0} → Name → (E → Reason) → Result ℕ E → Reply
+made_as n f (Ok k) = Took n
+made_as n f (Err e) = Refused n (f e)
 
--- an opening that was refused tells the number of the question
+-- an opening that was refused tells the question
 abbrev pub refused_as : Result Accepted Refusal → Reply
 refused_as (Ok a) = Closed Open
-refused_as (Err e) = Refused Open (questions.number e)
+refused_as (Err e) = Refused Open (reason.Opening e)
 
 -- the first question of the settings that is answered by no
 abbrev pub unopened : Settings → Reply
@@ -50,9 +48,9 @@ unopened s = refused_as (accepted s)
 -- a line without an answer: a call found no open run, and an opening was refused
 abbrev pub unanswered : Line → Reply
 unanswered line.Curve = Took Curve
-unanswered (line.Stair m) = made_as Stair m
-unanswered (line.List m) = made_as Listed m
-unanswered (line.Pattern m) = made_as Pattern m
+unanswered (line.Stair m) = made_as Stair reason.Stair m
+unanswered (line.List m) = made_as Listed reason.Outlook m
+unanswered (line.Pattern m) = made_as Pattern reason.Outlook m
 unanswered (line.Open s) = unopened s
 unanswered (line.Choose k p m) = Closed Choose
 unanswered (line.Trial t b) = Closed Trial
@@ -79,7 +77,7 @@ answered n (answer.Charged r) = Charged r
 answered n answer.Withdrawn = Took n
 answered n answer.Shown = Took n
 answered n (answer.Told s) = Told s
-answered n (answer.Refused e) = Refused n (number e)
+answered n (answer.Refused e) = Refused n (reason.Call e)
 
 -- the reply to a line that has an answer: an opening tells its figures, any other line its answer
 abbrev pub told_by : Name → Answer → Reply
@@ -122,9 +120,9 @@ left (Some c) xs = rest xs
 
 -- the answer that a line takes
 abbrev pub next_answer : Line → List Answer → Option Answer
-next_answer l xs = taken (call_of 0 l) xs
+next_answer l xs = taken (call_of None l) xs
 
 -- the replies to some lines, where each line that makes a call takes the next answer
 unfoldable pub replies_of : List Line → List Answer → List Reply
 replies_of [] xs = []
-replies_of (l ∷ ls) xs = replied l (next_answer l xs) ∷ replies_of ls (left (call_of 0 l) xs)
+replies_of (l ∷ ls) xs = replied l (next_answer l xs) ∷ replies_of ls (left (call_of None l) xs)

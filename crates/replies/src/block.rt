@@ -1,7 +1,10 @@
 // The runs of a script: an opening and the lines up to the next one, the calls that they make, and their replies.
-ghost use Rattle.std.specs.Prelude.{◌≡◌, ◌<◌, ◌≤◌, [], ◌++◌, length, drop, IfOk, OnOk};
-ghost use Rattle.replies.specs.Blocks.{opening_of, opens, first_opening, block_length, before, call_of, calls_of};
-ghost use Rattle.replies.specs.Replied.{first, left, next_answer, replies_of};
+ghost use Rattle.std.specs.Prelude.{◌≡◌, ◌<◌, ◌≤◌, [], ◌++◌, length, IfOk, OnOk};
+ghost use Rattle.std.specs.List.{position};
+ghost use Rattle.std.specs.Option.{option_to_list};
+ghost use Rattle.std.specs.Slice.Iter.{iter_rest};
+ghost use Rattle.replies.specs.Blocks.{opening_of, opens, first_opening, block_length, call_of, calls_of};
+ghost use Rattle.replies.specs.Replied.{left, next_answer, replies_of};
 
 use crate::reply::{Reply, reply_to};
 use crate::standing::{Standing, call_of};
@@ -9,6 +12,7 @@ use calls::{Answer, Call};
 use model::Settings;
 use scripts::Line;
 use std::alloc::{AllocError, Global};
+use std::slice::Iter;
 
 // The settings of a line that opens a run.
 fn opening_of(line: Line) -> Option<Settings>
@@ -31,10 +35,14 @@ fn opens(line: Line) -> bool
 pub(crate) fn first_opening(lines: &[Line]) -> Option<Settings>
     ensures { result ≡ first_opening lines.now }
 {
-    if lines.is_empty() {
-        return None;
-    }
-    opening_of(lines[0])
+    lines.first().and_then(|line| opening_of(*line))
+}
+
+// The place of the first line that opens a run, if there is one.
+fn next_opening(lines: &[Line]) -> Option<usize>
+    ensures { result ≡ position opens lines.now }
+{
+    lines.iter().position(|line| opens(*line))
 }
 
 // How many lines the first line and what belongs to it are: all up to the next opening. No lines are none.
@@ -43,17 +51,15 @@ pub fn block_length(lines: &[Line]) -> usize
     ensures within { result ≤ length lines.now }
     ensures some { 0 < length lines.now → 0 < result }
 {
-    for i in 1..lines.len() {
-        if opens(lines[i]) {
-            return i;
-        }
+    match lines.split_first() {
+        Some((_, later)) => 1 + next_opening(later).unwrap_or(later.len()),
+        None => 0,
     }
-    lines.len()
 }
 
 // Puts a call, if there is one, behind the others.
 fn add_call(calls: &mut Vec<Call>, call: Option<Call>) -> Result<(), AllocError>
-    ensures { OnOk result (calls.new.items ≡ calls.old.items ++ before call []) }
+    ensures { OnOk result (calls.new.items ≡ calls.old.items ++ option_to_list call) }
 {
     if let Some(call) = call {
         calls.push(call)?;
@@ -74,41 +80,13 @@ pub fn calls_of(heap: Global, lines: &[Line], first: Standing) -> Result<Vec<Cal
     Ok(calls)
 }
 
-// The answer at a place, if there is one.
-fn answer_at(answers: &[Answer], place: usize) -> Option<Answer>
-    ensures { result ≡ first (drop place answers.now) }
+// The answer that a line takes: the next one, if the line makes a call and there is one.
+fn next_answer(line: Line, answers: &mut Iter<'_, Answer>) -> Option<Answer>
+    ensures value { result ≡ next_answer line (iter_rest answers.old) }
+    ensures left { iter_rest answers.new ≡ left (call_of None line) (iter_rest answers.old) }
 {
-    if place < answers.len() {
-        Some(answers[place])
-    } else {
-        None
-    }
-}
-
-// The answer that a line takes: the one at a place, if the line makes a call and there is one.
-fn next_answer(line: Line, answers: &[Answer], place: usize) -> Option<Answer>
-    ensures { result ≡ next_answer line (drop place answers.now) }
-{
-    match call_of(line, 0) {
-        Some(_) => answer_at(answers, place),
-        None => None,
-    }
-}
-
-// The place of the answers that are left after a line.
-fn place_after(line: Line, answers: &[Answer], place: usize) -> usize
-    ensures { drop result answers.now ≡ left (call_of 0 line) (drop place answers.now) }
-{
-    match call_of(line, 0) {
-        Some(_) => {
-            if place < answers.len() {
-                place + 1
-            } else {
-                place
-            }
-        }
-        None => place,
-    }
+    call_of(line, None)?;
+    answers.next().copied()
 }
 
 // What each of some lines is replied, where their calls had these answers. It refuses only for want of memory.
@@ -120,11 +98,10 @@ pub fn replies_of(
     ensures { IfOk result (λ rs. rs.items ≡ replies_of lines.now answers.now) }
 {
     let mut replies = Vec::new(heap);
-    let mut place = 0;
+    let mut left = answers.iter();
     for line in lines {
-        let answer = next_answer(*line, answers, place);
+        let answer = next_answer(*line, &mut left);
         replies.push(reply_to(*line, answer))?;
-        place = place_after(*line, answers, place);
     }
     Ok(replies)
 }

@@ -14,11 +14,27 @@ use crate::standing::{Standing, standing_after};
 use calls::{Answer, Call};
 use model::Settings;
 use scripts::Line;
-use std::alloc::Global;
+use std::alloc::{AllocError, Global};
+use std::error::Error;
+use std::fmt;
 
 // There is no memory for calls, answers or replies.
-#[derive(Clone, Copy)]
+#[derive(Clone, Copy, PartialEq, Eq, Debug)]
 pub struct NoMemory;
+
+impl fmt::Display for NoMemory {
+    fn fmt<W: fmt::Write>(&self, f: &mut fmt::Formatter<W>) -> fmt::Result {
+        f.write_str("no memory to run the script")
+    }
+}
+
+impl Error for NoMemory {}
+
+impl From<AllocError> for NoMemory {
+    fn from(_e: AllocError) -> NoMemory {
+        NoMemory
+    }
+}
 
 // What performs runs: from the settings of a run, the place of its stair, or none for the curve, and its calls it gives
 // their answers.
@@ -48,9 +64,7 @@ fn answers_to<R: Runner>(
     let Some(settings) = first_opening(lines) else {
         return Ok(Vec::new(heap));
     };
-    let Ok(calls) = calls_of(heap, lines, standing) else {
-        return Err(NoMemory);
-    };
+    let calls = calls_of(heap, lines, standing)?;
     runner.run(heap, &settings, standing.stair, calls.as_slice())
 }
 
@@ -65,12 +79,8 @@ fn add_replies<R: Runner>(
     ensures { OnOk result (replies.new.items ≡ replies.old.items ++ replies_of lines.now (block_answers (R.Runner.answers runner.now) standing lines.now)) }
 {
     let answers = answers_to(heap, runner, standing, lines)?;
-    let Ok(more) = replies_of(heap, lines, answers.as_slice()) else {
-        return Err(NoMemory);
-    };
-    if replies.extend_from_slice(more.as_slice()).is_err() {
-        return Err(NoMemory);
-    }
+    let more = replies_of(heap, lines, answers.as_slice())?;
+    replies.extend_from_slice(more.as_slice())?;
     Ok(())
 }
 
@@ -81,6 +91,7 @@ pub fn play<R: Runner>(heap: Global, runner: &R, lines: &[Line]) -> Result<Vec<R
     let mut replies = Vec::new(heap);
     let mut standing = Standing::at_first();
     let mut rest = lines;
+    // The loop counts no index: each turn takes a block off the lines that are left.
     while !rest.is_empty() {
         let (block, later) = rest.split_at(block_length(rest));
         add_replies(heap, runner, standing, block, &mut replies)?;

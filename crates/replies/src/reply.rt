@@ -1,10 +1,11 @@
 // What a line is replied.
 ghost use Rattle.std.specs.Prelude.{◌≡◌};
-ghost use Rattle.replies.specs.Replied.{name_of, made_as, unopened, unanswered, opened_by, answered, replied};
+ghost use Rattle.replies.specs.Replied.{name_of, unopened, unanswered, opened_by, answered, replied};
 
+use crate::reason::Reason;
 use calls::{Answer, Decision, Reported, Status};
 use model::Settings;
-use scripts::{Line, Made};
+use scripts::Line;
 
 // The name of a line, which begins its reply too.
 #[derive(Clone, Copy, Debug, PartialEq, Eq)]
@@ -22,13 +23,13 @@ pub enum Name {
     Status,
 }
 
-// What is told of a line.
+// What is told of a line: a refusal is one of the things told, and no `Err`.
 #[derive(Clone, Copy)]
 pub enum Reply {
     // It was accepted, and there is no more to tell.
     Accepted(Name),
-    // It was refused with a number.
-    Refused(Name, u8),
+    // It was refused.
+    Refused(Name, Reason),
     // It is a call, and no run is open.
     Closed(Name),
     // A run was opened: its figures at the beginning.
@@ -60,23 +61,13 @@ fn name_of(line: Line) -> Name
     }
 }
 
-// What a line is told that makes an outlook or a stair.
-fn made_as(name: Name, made: Made) -> Reply
-    ensures { result ≡ made_as name made }
-{
-    match made {
-        Made::At(_) => Reply::Accepted(name),
-        Made::Refused(n) => Reply::Refused(name, n),
-    }
-}
-
-// What an opening is told that has no answer: the number of the first question that is answered by no.
+// What an opening is told that has no answer: the first question that is answered by no.
 fn unopened(settings: Settings) -> Reply
     ensures { result ≡ unopened settings }
 {
     match settings.accept() {
         Ok(_) => Reply::Closed(Name::Open),
-        Err(refusal) => Reply::Refused(Name::Open, refusal.number()),
+        Err(refusal) => Reply::Refused(Name::Open, refusal.into()),
     }
 }
 
@@ -86,9 +77,12 @@ fn unanswered(line: Line) -> Reply
 {
     match line {
         Line::Curve => Reply::Accepted(Name::Curve),
-        Line::Stair(made) => made_as(Name::Stair, made),
-        Line::List(made) => made_as(Name::List, made),
-        Line::Pattern(made) => made_as(Name::Pattern, made),
+        Line::Stair(Ok(_)) => Reply::Accepted(Name::Stair),
+        Line::List(Ok(_)) => Reply::Accepted(Name::List),
+        Line::Pattern(Ok(_)) => Reply::Accepted(Name::Pattern),
+        Line::Stair(Err(refusal)) => Reply::Refused(Name::Stair, refusal.into()),
+        Line::List(Err(refusal)) => Reply::Refused(Name::List, refusal.into()),
+        Line::Pattern(Err(refusal)) => Reply::Refused(Name::Pattern, refusal.into()),
         Line::Open(settings) => unopened(settings),
         call => Reply::Closed(name_of(call)),
     }
@@ -113,7 +107,7 @@ fn answered(name: Name, answer: Answer) -> Reply
         Answer::Tried | Answer::Withdrawn | Answer::Shown => Reply::Accepted(name),
         Answer::Charged(reported) => Reply::Charged(reported),
         Answer::Told(status) => Reply::Told(status),
-        Answer::Refused(refusal) => Reply::Refused(name, refusal.number()),
+        Answer::Refused(refusal) => Reply::Refused(name, refusal.into()),
     }
 }
 

@@ -3,17 +3,18 @@ ghost use Rattle.std.specs.Prelude.{◌≡◌};
 ghost use Rattle.replies.specs.Blocks.{at_first, after, call_of, stands};
 
 use calls::Call;
-use scripts::{Line, Made};
+use scripts::Line;
 
-// The place of the outlook among those of the script, or a place where there is none for an empty one; and the place
-// of the stair among the stairs, or none for the curve.
+// The place of the outlook among those of the script, or none for an empty one; and the place of the stair among the
+// stairs, or none for the curve.
 #[derive(Clone, Copy, Debug, PartialEq, Eq)]
 pub struct Standing {
-    pub outlook: usize,
+    pub outlook: Option<usize>,
     pub stair: Option<usize>,
 }
 
-// A place at which no script has an outlook.
+// The place that a recorded choice names where no outlook stands: no script has an outlook there. A rule asks for it,
+// since a recorded call names its outlook by a place in every case, and a place outside a list stands for no entries.
 const NO_OUTLOOK: usize = usize::MAX;
 
 impl Standing {
@@ -22,7 +23,7 @@ impl Standing {
         ensures { result ≡ at_first }
     {
         Standing {
-            outlook: NO_OUTLOOK,
+            outlook: None,
             stair: None,
         }
     }
@@ -33,20 +34,16 @@ impl Standing {
     {
         match line {
             Line::Curve => Standing {
-                outlook: self.outlook,
                 stair: None,
+                ..self
             },
-            Line::Stair(Made::At(place)) => Standing {
-                outlook: self.outlook,
+            Line::Stair(Ok(place)) => Standing {
                 stair: Some(place),
+                ..self
             },
-            Line::List(Made::At(place)) => Standing {
-                outlook: place,
-                stair: self.stair,
-            },
-            Line::Pattern(Made::At(place)) => Standing {
-                outlook: place,
-                stair: self.stair,
+            Line::List(Ok(place)) | Line::Pattern(Ok(place)) => Standing {
+                outlook: Some(place),
+                ..self
             },
             _ => self,
         }
@@ -54,7 +51,7 @@ impl Standing {
 }
 
 // The call that a line makes where an outlook stands, if it makes one. An opening asks for the status.
-pub fn call_of(line: Line, outlook: usize) -> Option<Call>
+pub fn call_of(line: Line, outlook: Option<usize>) -> Option<Call>
     ensures { result ≡ call_of outlook line }
 {
     match line {
@@ -64,7 +61,7 @@ pub fn call_of(line: Line, outlook: usize) -> Option<Call>
             mean,
         } => Some(Call::Choose {
             subtype,
-            outlook,
+            outlook: outlook.unwrap_or(NO_OUTLOOK),
             previous,
             log_isqrt_mean_scale: mean,
         }),
@@ -91,9 +88,7 @@ pub fn call_of(line: Line, outlook: usize) -> Option<Call>
 pub fn standing_after(lines: &[Line], first: Standing) -> Standing
     ensures { result ≡ stands first lines.now }
 {
-    let mut standing = first;
-    for line in lines {
-        standing = standing.after(*line);
-    }
-    standing
+    lines
+        .iter()
+        .fold(first, |standing, line| standing.after(*line))
 }

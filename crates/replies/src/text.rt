@@ -1,7 +1,6 @@
 // How replies are written.
 use crate::reply::{Name, Reply};
 use calls::{Decision, Reported, Status};
-use quantize::{QuantizerParameters, Scales};
 use std::fmt;
 
 impl fmt::Display for Name {
@@ -22,75 +21,56 @@ impl fmt::Display for Name {
     }
 }
 
-fn write_opened<W: fmt::Write>(status: &Status, f: &mut fmt::Formatter<W>) -> fmt::Result {
-    let credit = status.credit;
-    let limit = status.limit;
-    let fullness = status.fullness;
-    write!(f, "open credit={credit} limit={limit} fullness={fullness}")
-}
-
-fn write_quantizer<W: fmt::Write>(
-    quantizer: &QuantizerParameters,
-    f: &mut fmt::Formatter<W>,
-) -> fmt::Result {
-    let base = quantizer.log_base_q;
-    let log_q = quantizer.log_target_q;
-    write!(f, "base={base} log_q={log_q} ")?;
-    let [a, b, c] = quantizer.dc_qi;
-    write!(f, "dc={a},{b},{c} ")?;
-    let [a, b, c] = quantizer.ac_qi;
-    write!(f, "ac={a},{b},{c} ")?;
-    match quantizer.scales {
-        Scales::Mono(x) => write!(f, "scales={x}"),
-        Scales::Colour(x, y, z) => write!(f, "scales={x},{y},{z}"),
-    }
-}
-
-fn write_chosen<W: fmt::Write>(
-    ticket: u64,
-    decision: &Decision,
-    f: &mut fmt::Formatter<W>,
-) -> fmt::Result {
-    let found = decision.found;
-    let total = decision.total;
-    let tries = decision.tries;
-    write!(
-        f,
-        "choose ticket={ticket} found={found} total={total} tries={tries} "
-    )?;
-    write_quantizer(&decision.quantizer, f)
-}
-
-fn write_charged<W: fmt::Write>(reported: &Reported, f: &mut fmt::Formatter<W>) -> fmt::Result {
-    let charge = reported.charge;
-    let dropped = reported.dropped as u8;
-    write!(f, "report charge={charge} dropped={dropped}")
-}
-
-fn write_told<W: fmt::Write>(status: &Status, f: &mut fmt::Formatter<W>) -> fmt::Result {
-    let fullness = status.fullness;
-    let credit = status.credit;
-    let limit = status.limit;
-    write!(
-        f,
-        "status fullness={fullness} credit={credit} limit={limit} "
-    )?;
-    let bias = status.rate_bias;
-    let coded = status.coded;
-    let out = status.out as u8;
-    write!(f, "bias={bias} coded={coded} out={out}")
-}
-
 impl fmt::Display for Reply {
     fn fmt<W: fmt::Write>(&self, f: &mut fmt::Formatter<W>) -> fmt::Result {
-        match self {
+        match *self {
             Reply::Accepted(name) => write!(f, "{name} ok"),
-            Reply::Refused(name, n) => write!(f, "{name} refused {n}"),
+            Reply::Refused(name, reason) => write!(f, "{name} refused {reason}"),
             Reply::Closed(name) => write!(f, "{name} closed"),
-            Reply::Opened(status) => write_opened(status, f),
-            Reply::Chosen { ticket, decision } => write_chosen(*ticket, decision, f),
-            Reply::Charged(reported) => write_charged(reported, f),
-            Reply::Told(status) => write_told(status, f),
+            Reply::Opened(
+                Status {
+                    credit,
+                    limit,
+                    fullness,
+                    ..
+                },
+            ) => write!(f, "open credit={credit} limit={limit} fullness={fullness}"),
+            Reply::Chosen {
+                ticket,
+                decision: Decision {
+                    found,
+                    total,
+                    tries,
+                    quantizer,
+                },
+            } => {
+                let base = quantizer.log_base_q;
+                let log_q = quantizer.log_target_q;
+                write!(
+                    f,
+                    "choose ticket={ticket} found={found} total={total} tries={tries} base={base} log_q={log_q} {quantizer}"
+                )
+            }
+            Reply::Charged(Reported { charge, dropped }) => {
+                let dropped = dropped as u8;
+                write!(f, "report charge={charge} dropped={dropped}")
+            }
+            Reply::Told(
+                Status {
+                    fullness,
+                    credit,
+                    limit,
+                    rate_bias,
+                    coded,
+                    out,
+                },
+            ) => {
+                let out = out as u8;
+                write!(
+                    f,
+                    "status fullness={fullness} credit={credit} limit={limit} bias={rate_bias} coded={coded} out={out}"
+                )
+            }
         }
     }
 }

@@ -2,6 +2,7 @@
 use Rattle.std.proofs.Common.{◌≡◌, ℕ, ◌+◌, ◌%◌, ◌^◌, Bool, true, false, cond, ◌||◌, eqb, List, [], ◌++◌, ℤ, pos, ◌+ℤ◌, neg_ℤ, ◌≤ℤ◌, Some, None, Option, sym, refl, ap, ◌∙◌, subst, arith}
 use lib.Signed.{lt_z}
 use Rattle.std.proofs.lemmas.Int.{ints, clamps}
+use Rattle.model.specs.Meaning.{Meaning}
 use Rattle.flat.specs.Flat.{subtype_of_code}
 use Rattle.flat.specs.declared.subtype.Subtype.{Subtype}
 use Rattle.outlook.specs.declared.counts.Counts.{Counts}
@@ -90,26 +91,26 @@ covered s bits droppable d k h =
 abbrev pub Stays : Core → List Entry → Type 0
 Stays s es = Above s.reservoir.limit s.reservoir.credit s.reservoir.fullness es
 
-module _ {M : Type 0} (count : M → ℕ → ℤ → ℕ) (trimmed : M → ℕ → ℤ → ℤ → ℤ → ℤ → Bool → ℤ) (next : M → ℕ → ℕ → ℤ → Bool → ℕ → M) (s : Core) (m : M) where
+module _ {M : Type 0} (meaning : Meaning M) (s : Core) (m : M) where
   goes_choose : (n : ℕ) (b : Bool) (o : Option Subtype) (a : Counts) (previous : Option ℤ) (mean : ℤ)
-      → Goes s (choose_on count trimmed s m b o a previous mean).core [] (choice (of_choose n (choose_on count trimmed s m b o a previous mean).answer))
+      → Goes s (choose_on meaning s m b o a previous mean).core [] (choice (of_choose n (choose_on meaning s m b o a previous mean).answer))
   goes_choose n true o a previous mean = kept s s refl refl refl
   goes_choose n false None a previous mean = kept s s refl refl refl
   goes_choose n false (Some k) a previous mean = record { fullness = refl; limit = refl; credit = refl; profile = refl; choices = again s.choices }
 
-  goes_trial_of : (f : Frame) (b none : Bool) (bits : ℕ) → Goes s (trial_of next s m f b none bits).core [] (choice (of_trial (trial_of next s m f b none bits).answer))
+  goes_trial_of : (f : Frame) (b none : Bool) (bits : ℕ) → Goes s (trial_of meaning s m f b none bits).core [] (choice (of_trial (trial_of meaning s m f b none bits).answer))
   goes_trial_of f false none bits = kept s s refl refl refl
   goes_trial_of f true true bits = kept s s refl refl refl
   goes_trial_of f true false bits = kept s _ refl refl refl
 
-  goes_trial : (o : Option Frame) (bits : ℕ) → Goes s (trial_on next s m o bits).core [] (choice (of_trial (trial_on next s m o bits).answer))
+  goes_trial : (o : Option Frame) (bits : ℕ) → Goes s (trial_on meaning s m o bits).core [] (choice (of_trial (trial_on meaning s m o bits).answer))
   goes_trial None bits = kept s s refl refl refl
   goes_trial (Some f) bits = goes_trial_of f (eqb (reports_of s f.subtype) 0) (eqb bits 0) bits
 
   goes_report : (o : Option Frame) (b : Bool) (bits : ℕ) (shown droppable : Bool)
-      → Goes s (report_on count next s m o b bits shown droppable).core
-      (report_entry s.reservoir.credit bits shown (of_report (report_on count next s m o b bits shown droppable).answer))
-      (choice (of_report (report_on count next s m o b bits shown droppable).answer))
+      → Goes s (report_on meaning s m o b bits shown droppable).core
+      (report_entry s.reservoir.credit bits shown (of_report (report_on meaning s m o b bits shown droppable).answer))
+      (choice (of_report (report_on meaning s m o b bits shown droppable).answer))
   goes_report None b bits shown droppable = kept s s refl refl refl
   goes_report (Some f) false bits shown droppable = kept s s refl refl refl
   goes_report (Some f) true bits shown droppable = record { fullness = refl; limit = refl; credit = refl; profile = refl; choices = same s.choices }
@@ -125,8 +126,8 @@ module _ {M : Type 0} (count : M → ℕ → ℤ → ℕ) (trimmed : M → ℕ �
   goes_show false true = record { fullness = refl; limit = refl; credit = refl; profile = refl; choices = same s.choices }
 
   above_report : (o : Option Frame) (b : Bool) (bits : ℕ) (shown droppable : Bool) → Held s
-      → if_accepted droppable (of_report (report_on count next s m o b bits shown droppable).answer)
-      → Stays s (report_entry s.reservoir.credit bits shown (of_report (report_on count next s m o b bits shown droppable).answer))
+      → if_accepted droppable (of_report (report_on meaning s m o b bits shown droppable).answer)
+      → Stays s (report_entry s.reservoir.credit bits shown (of_report (report_on meaning s m o b bits shown droppable).answer))
   above_report None b bits shown droppable h k = h.fullness
   above_report (Some f) false bits shown droppable h k = h.fullness
   above_report (Some f) true bits shown droppable h k =
@@ -141,48 +142,48 @@ module _ {M : Type 0} (count : M → ℕ → ℤ → ℕ) (trimmed : M → ℕ �
 
   -- an accepted choice has the next number, and its figures are those of a decision
   chose : (n t : ℕ) (b : Bool) (o : Option Subtype) (a : Counts) (previous : Option ℤ) (mean : ℤ) (d : Decision)
-      → Chosen t d ≡ of_choose n (choose_on count trimmed s m b o a previous mean).answer
-      → (t ≡ n) × ((k : Subtype) × (d ≡ decision count trimmed s m a k previous mean))
+      → Chosen t d ≡ of_choose n (choose_on meaning s m b o a previous mean).answer
+      → (t ≡ n) × ((k : Subtype) × (d ≡ decision meaning s m a k previous mean))
   chose n t true o a previous mean d e = absurd (let z : ◌≡◌ {A = ℕ} 0 1 = cc in omega arith)
   chose n t false None a previous mean d e = absurd (let z : ◌≡◌ {A = ℕ} 0 1 = cc in omega arith)
   chose n t false (Some k) a previous mean d e = ((cc), (k, (cc)))
 
-module _ {M O : Type 0} (count : M → ℕ → ℤ → ℕ) (trimmed : M → ℕ → ℤ → ℤ → ℤ → ℤ → Bool → ℤ) (next : M → ℕ → ℕ → ℤ → Bool → ℕ → M) (entries : O → List ℕ) (outlooks : List O) (s : Core) (m : M) where
+module _ {M O : Type 0} (meaning : Meaning M) (entries : O → List ℕ) (outlooks : List O) (s : Core) (m : M) where
   abbrev pub answer : Call → Answer
-  answer c = answer_to count trimmed next entries outlooks s m c
+  answer c = answer_to meaning entries outlooks s m c
 
-  pub goes : (c : Call) → Goes s (core_after count trimmed next entries outlooks s m c) (entry s.reservoir.credit c (answer c)) (choice (answer c))
+  pub goes : (c : Call) → Goes s (core_after meaning entries outlooks s m c) (entry s.reservoir.credit c (answer c)) (choice (answer c))
   goes (Choose k i previous mean) =
-      goes_choose count trimmed next s m (next_number s) (any_out s.out) (subtype_of_code k) (ahead s (entries_at entries outlooks i)) previous mean
-  goes (Trial n bits) = goes_trial count trimmed next s m (frame_of s n) bits
-  goes (Report n bits shown droppable) = goes_report count trimmed next s m (frame_of s n) (has_room s) bits shown droppable
-  goes (Withdraw n) = goes_withdraw count trimmed next s m (frame_of s n)
-  goes Show = goes_show count trimmed next s m (any_out s.out) (has_room s)
+      goes_choose meaning s m (next_number s) (any_out s.out) (subtype_of_code k) (ahead s (entries_at entries outlooks i)) previous mean
+  goes (Trial n bits) = goes_trial meaning s m (frame_of s n) bits
+  goes (Report n bits shown droppable) = goes_report meaning s m (frame_of s n) (has_room s) bits shown droppable
+  goes (Withdraw n) = goes_withdraw meaning s m (frame_of s n)
+  goes Show = goes_show meaning s m (any_out s.out) (has_room s)
   goes Status = kept s s refl refl refl
 
   pub above : (c : Call) → Held s → Droppable (c, answer c) → Stays s (entry s.reservoir.credit c (answer c))
   above (Choose k i previous mean) h d = h.fullness
   above (Trial n bits) h d = h.fullness
-  above (Report n bits shown droppable) h d = above_report count trimmed next s m (frame_of s n) (has_room s) bits shown droppable h d
+  above (Report n bits shown droppable) h d = above_report meaning s m (frame_of s n) (has_room s) bits shown droppable h d
   above (Withdraw n) h d = h.fullness
-  above Show h d = above_show count trimmed next s m (any_out s.out) (has_room s) h
+  above Show h d = above_show meaning s m (any_out s.out) (has_room s) h
   above Status h d = h.fullness
 
   -- what a call leaves as it was, while every accepted report is droppable
-  pub held : (c : Call) → Held s → Droppable (c, answer c) → Held (core_after count trimmed next entries outlooks s m c)
+  pub held : (c : Call) → Held s → Droppable (c, answer c) → Held (core_after meaning entries outlooks s m c)
   held c h d =
       let g = goes c in
       let a = above_end s.reservoir.limit s.reservoir.credit s.reservoir.fullness (entry s.reservoir.credit c (answer c)) (above c h d) in
       record {
         dropping = ap (λ x. x.dropping) g.profile ∙ h.dropping;
         credit = subst (λ (z : ℤ). pos 24 ≤ℤ z) (sym g.credit) h.credit;
-        limit = subst (λ (z : ℤ). (core_after count trimmed next entries outlooks s m c).reservoir.credit ≤ℤ z) (sym g.limit)
+        limit = subst (λ (z : ℤ). (core_after meaning entries outlooks s m c).reservoir.credit ≤ℤ z) (sym g.limit)
             (subst (λ (z : ℤ). z ≤ℤ s.reservoir.limit) (sym g.credit) h.limit);
-        fullness = subst (λ (z : ℤ). neg_ℤ z ≤ℤ (core_after count trimmed next entries outlooks s m c).reservoir.fullness) (sym g.credit)
+        fullness = subst (λ (z : ℤ). neg_ℤ z ≤ℤ (core_after meaning entries outlooks s m c).reservoir.fullness) (sym g.credit)
             (subst (λ (z : ℤ). neg_ℤ s.reservoir.credit ≤ℤ z) (sym g.fullness) a);
       }
 
   pub choice_made : (k i : ℕ) (previous : Option ℤ) (mean : ℤ) (t : ℕ) (d : Decision) → Chosen t d ≡ answer (Choose k i previous mean)
-      → (t ≡ next_number s) × ((f : Subtype) × (d ≡ decision count trimmed s m (ahead s (entries_at entries outlooks i)) f previous mean))
+      → (t ≡ next_number s) × ((f : Subtype) × (d ≡ decision meaning s m (ahead s (entries_at entries outlooks i)) f previous mean))
   choice_made k i previous mean t d e =
-      chose count trimmed next s m (next_number s) t (any_out s.out) (subtype_of_code k) (ahead s (entries_at entries outlooks i)) previous mean d e
+      chose meaning s m (next_number s) t (any_out s.out) (subtype_of_code k) (ahead s (entries_at entries outlooks i)) previous mean d e

@@ -1,6 +1,7 @@
 -- Histories: their parts, and what they do to a core.
-use Rattle.std.proofs.Common.{◌≡◌, ℕ, Bool, List, [], ◌∷◌, ◌++◌, map, ℤ, sym, refl, ap, subst, arith}
+use Rattle.std.proofs.Common.{◌≡◌, ℕ, List, [], ◌∷◌, ◌++◌, map, ℤ, sym, refl, ap, subst, arith}
 use Rattle.std.specs.List.{AllByRecursion}
+use Rattle.model.specs.Meaning.{Meaning}
 use Rattle.calls.specs.declared.call.Call.{Call}
 use Rattle.calls.specs.declared.answer.Answer.{Answer}
 use Rattle.controller.specs.declared.state.Core.{Core}
@@ -21,19 +22,19 @@ tails x y xs ys e = cc
 nil_cons : {A : Type 0} (y : A) (ys : List A) → [] ≡ y ∷ ys → ⊥
 nil_cons y ys e = let z : ◌≡◌ {A = ℕ} 0 1 = cc in omega arith
 
-module _ {M O : Type 0} (count : M → ℕ → ℤ → ℕ) (trimmed : M → ℕ → ℤ → ℤ → ℤ → ℤ → Bool → ℤ) (next : M → ℕ → ℕ → ℤ → Bool → ℕ → M) (entries : O → List ℕ) (outlooks : List O) where
+module _ {M O : Type 0} (meaning : Meaning M) (entries : O → List ℕ) (outlooks : List O) where
   abbrev pub after : State M → Call → State M
-  after x c = state_after count trimmed next entries outlooks x c
+  after x c = state_after meaning entries outlooks x c
 
   abbrev pub after_all : State M → List Call → State M
-  after_all x cs = state_after_all count trimmed next entries outlooks x cs
+  after_all x cs = state_after_all meaning entries outlooks x cs
 
   abbrev pub told : State M → Call → Answer
-  told x c = answer_to count trimmed next entries outlooks x.core x.model c
+  told x c = answer_to meaning entries outlooks x.core x.model c
 
   -- the calls beside the answers to them
   abbrev pub history : State M → List Call → History
-  history x cs = beside cs (answers_to count trimmed next entries outlooks x cs)
+  history x cs = beside cs (answers_to meaning entries outlooks x cs)
 
   abbrev pub calls_of : History → List Call
   calls_of h = map (λ e. e.0) h
@@ -66,7 +67,7 @@ module _ {M O : Type 0} (count : M → ℕ → ℤ → ℕ) (trimmed : M → ℕ
   pub goes_all : (x : State M) (cs : List Call) → Goes x.core (after_all x cs).core (ledger x.core.reservoir.credit (history x cs)) (choices (history x cs))
   goes_all x [] = record { fullness = refl; limit = refl; credit = refl; profile = refl; choices = omega arith }
   goes_all x (c ∷ cs) =
-      let g = goes count trimmed next entries outlooks x.core x.model c in
+      let g = goes meaning entries outlooks x.core x.model c in
       let t = goes_all (after x c) cs in
       joins x.core (after x c).core (after_all (after x c) cs).core (entry x.core.reservoir.credit c (told x c)) (ledger x.core.reservoir.credit (history (after x c) cs))
       (choice (told x c)) (choices (history (after x c) cs)) g
@@ -83,9 +84,9 @@ module _ {M O : Type 0} (count : M → ℕ → ℤ → ℕ) (trimmed : M → ℕ
   above_all x [] h d = h.fullness
   above_all x (c ∷ cs) h d =
       let s : Core = x.core in
-      let g = goes count trimmed next entries outlooks s x.model c in
-      let a = above count trimmed next entries outlooks s x.model c h d.0 in
-      let t = above_all (after x c) cs (held count trimmed next entries outlooks s x.model c h d.0) d.1 in
+      let g = goes meaning entries outlooks s x.model c in
+      let a = above meaning entries outlooks s x.model c h d.0 in
+      let t = above_all (after x c) cs (held meaning entries outlooks s x.model c h d.0) d.1 in
       above_join s.reservoir.limit s.reservoir.credit s.reservoir.fullness (entry s.reservoir.credit c (told x c)) (ledger s.reservoir.credit (history (after x c) cs)) a
       (subst (λ (f : ℤ). Above s.reservoir.limit s.reservoir.credit f (ledger s.reservoir.credit (history (after x c) cs))) g.fullness
       (subst (λ (l : ℤ). Above l s.reservoir.credit (after x c).core.reservoir.fullness (ledger s.reservoir.credit (history (after x c) cs))) g.limit

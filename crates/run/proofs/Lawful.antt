@@ -1,5 +1,6 @@
 -- Every history of a controller is lawful.
-use Rattle.std.proofs.Common.{◌≡◌, ℕ, ◌+◌, ◌%◌, ◌^◌, ◌≤◌, Bool, List, ◌∷◌, ℤ, pos, neg_ℤ, ◌≤ℤ◌, ◌<ℤ◌, Option, sym, refl, ap, ◌∙◌, subst, arith}
+use Rattle.std.proofs.Common.{◌≡◌, ℕ, ◌+◌, ◌%◌, ◌^◌, ◌≤◌, List, ◌∷◌, ℤ, pos, neg_ℤ, ◌≤ℤ◌, ◌<ℤ◌, Option, sym, refl, ap, ◌∙◌, subst, arith}
+use Rattle.model.specs.Meaning.{Meaning}
 use Rattle.flat.specs.Flat.{ac_log}
 use Rattle.flat.specs.declared.subtype.Subtype.{Subtype}
 use Rattle.outlook.specs.Bytes.{front}
@@ -52,16 +53,16 @@ same_ahead s t es e = ap (λ (p : Profile). tally (front p.delay es)) e
 numbered : (n t s k : ℕ) → n ≡ (t + 1) % 2 ^ 64 → t % 2 ^ 64 ≡ (s + k) % 2 ^ 64 → s ≡ 0 → n ≡ (k + 1) % 2 ^ 64
 numbered n t s k p q z = omega arith
 
-module _ {M : Type 0} (count : M → ℕ → ℤ → ℕ) (trimmed : M → ℕ → ℤ → ℤ → ℤ → ℤ → Bool → ℤ) (s : Core) (m : M) (a : Counts) (k : Subtype) (previous : Option ℤ) (mean : ℤ) where
-  decided_total : (decision count trimmed s m a k previous mean).total ≡ total s a
+module _ {M : Type 0} (meaning : Meaning M) (s : Core) (m : M) (a : Counts) (k : Subtype) (previous : Option ℤ) (mean : ℤ) where
+  decided_total : (decision meaning s m a k previous mean).total ≡ total s a
   unfolding decision
   decided_total = refl
 
-  decided_found : (decision count trimmed s m a k previous mean).found ≡ (hunt (forecast count m a.kinds) (total s a) 60 (bottom s) (top s) 0).base
+  decided_found : (decision meaning s m a k previous mean).found ≡ (hunt (forecast meaning m a.kinds) (total s a) 60 (bottom s) (top s) 0).base
   unfolding decision found_for
   decided_found = refl
 
-  decided_tries : (decision count trimmed s m a k previous mean).tries ≡ (hunt (forecast count m a.kinds) (total s a) 60 (bottom s) (top s) 0).tries
+  decided_tries : (decision meaning s m a k previous mean).tries ≡ (hunt (forecast meaning m a.kinds) (total s a) 60 (bottom s) (top s) 0).tries
   unfolding decision found_for
   decided_tries = refl
 
@@ -73,57 +74,57 @@ hunted hunts s o p t bottom' top' e f =
     (subst (λ (z : ℤ). Hits p t (bottom s) (top s) (hunt p t 60 (bottom s) z 0).base × ((hunt p t 60 (bottom s) z 0).tries ≤ 60)) (sym f)
     (hunts p t (bottom s) (top s) o.low o.high o.order))
 
-module _ {M O : Type 0} (count : M → ℕ → ℤ → ℕ) (trimmed : M → ℕ → ℤ → ℤ → ℤ → ℤ → Bool → ℤ) (next : M → ℕ → ℕ → ℤ → Bool → ℕ → M) (entries : O → List ℕ) (outlooks : List O) (x : State M) (cs : List Call) where
+module _ {M O : Type 0} (meaning : Meaning M) (entries : O → List ℕ) (outlooks : List O) (x : State M) (cs : List Call) where
   abbrev whole : History
-  whole = history count trimmed next entries outlooks x cs
+  whole = history meaning entries outlooks x cs
 
   abbrev at : History → State M
-  at before = after_all count trimmed next entries outlooks x (calls_of count trimmed next entries outlooks before)
+  at before = after_all meaning entries outlooks x (calls_of meaning entries outlooks before)
 
   full_law : Fullness x.core.reservoir whole
   full_law before after t q =
-      let a : Told t ≡ Told (status_of (at before).core) = answered count trimmed next entries outlooks x cs before after (Status, Told t) q in
+      let a : Told t ≡ Told (status_of (at before).core) = answered meaning entries outlooks x cs before after (Status, Told t) q in
       let b : t ≡ status_of (at before).core = cc in
       let f : t.fullness ≡ flow x.core.reservoir.limit x.core.reservoir.fullness (ledger x.core.reservoir.credit before) =
-      ap (λ (y : StatusRecord). y.fullness) b ∙ (goes_past count trimmed next entries outlooks x cs before ((Status, Told t) ∷ after) q).fullness in
+      ap (λ (y : StatusRecord). y.fullness) b ∙ (goes_past meaning entries outlooks x cs before ((Status, Told t) ∷ after) q).fullness in
       rw f (least x.core.reservoir.limit x.core.reservoir.fullness (ledger x.core.reservoir.credit before))
 
   charge_law : Opened x.core → Charges x.core.profile.dropping x.core.reservoir whole
   charge_law o d past rest q k before stretch after e =
       stretch_charges x.core.reservoir.limit x.core.reservoir.credit x.core.reservoir.fullness before stretch after o.full
       (subst (λ (es : List Entry). Stays x.core es) e
-      (above_past count trimmed next entries outlooks x cs past rest q (record { dropping = d; credit = o.credit; limit = o.limit; fullness = o.held }) k))
+      (above_past meaning entries outlooks x cs past rest q (record { dropping = d; credit = o.credit; limit = o.limit; fullness = o.held }) k))
 
   number_law : Opened x.core → Numbers whole
   number_law o before after k i previous mean n d q =
-      let a = answered count trimmed next entries outlooks x cs before after (Choose k i previous mean, Chosen n d) q in
-      let g = goes_past count trimmed next entries outlooks x cs before ((Choose k i previous mean, Chosen n d) ∷ after) q in
+      let a = answered meaning entries outlooks x cs before after (Choose k i previous mean, Chosen n d) q in
+      let g = goes_past meaning entries outlooks x cs before ((Choose k i previous mean, Chosen n d) ∷ after) q in
       numbered n (at before).core.choices x.core.choices (choices before)
-      (choice_made count trimmed next entries outlooks (at before).core (at before).model k i previous mean n d a).0 g.choices o.none
+      (choice_made meaning entries outlooks (at before).core (at before).model k i previous mean n d a).0 g.choices o.none
 
   -- a decision by the counts of the opened core's delay
   meets : Hunts → Opened x.core → (y : State M) → y.core.profile ≡ x.core.profile → (a : Counts) (k : Subtype) (previous : Option ℤ) (mean : ℤ)
-      → Meets count x.core y a (decision count trimmed y.core y.model a k previous mean)
+      → Meets meaning x.core y a (decision meaning y.core y.model a k previous mean)
   meets hunts o y e a k previous mean =
-      let t = decided_total count trimmed y.core y.model a k previous mean in
-      let h = hunted hunts x.core o (forecast count y.model a.kinds) (total y.core a) (bottom y.core) (top y.core) (same_bottom y.core x.core e) (same_top y.core x.core e) in
+      let t = decided_total meaning y.core y.model a k previous mean in
+      let h = hunted hunts x.core o (forecast meaning y.model a.kinds) (total y.core a) (bottom y.core) (top y.core) (same_bottom y.core x.core e) (same_top y.core x.core e) in
       record {
         total_is = t;
-        few = subst (λ (n : ℕ). n ≤ 60) (sym (decided_tries count trimmed y.core y.model a k previous mean)) h.1;
-        hits = subst (λ (z : ℤ). Hits (forecast count y.model a.kinds) z (bottom x.core) (top x.core) (decision count trimmed y.core y.model a k previous mean).found) (sym t)
-            (subst (λ (z : ℤ). Hits (forecast count y.model a.kinds) (total y.core a) (bottom x.core) (top x.core) z) (sym (decided_found count trimmed y.core y.model a k previous mean)) h.0);
+        few = subst (λ (n : ℕ). n ≤ 60) (sym (decided_tries meaning y.core y.model a k previous mean)) h.1;
+        hits = subst (λ (z : ℤ). Hits (forecast meaning y.model a.kinds) z (bottom x.core) (top x.core) (decision meaning y.core y.model a k previous mean).found) (sym t)
+            (subst (λ (z : ℤ). Hits (forecast meaning y.model a.kinds) (total y.core a) (bottom x.core) (top x.core) z) (sym (decided_found meaning y.core y.model a k previous mean)) h.0);
       }
 
-  crossing_law : Hunts → Opened x.core → Crossing count trimmed next entries outlooks x whole
+  crossing_law : Hunts → Opened x.core → Crossing meaning entries outlooks x whole
   crossing_law hunts o before after k i previous mean n d q =
-      let a = answered count trimmed next entries outlooks x cs before after (Choose k i previous mean, Chosen n d) q in
-      let g = goes_past count trimmed next entries outlooks x cs before ((Choose k i previous mean, Chosen n d) ∷ after) q in
-      let c = (choice_made count trimmed next entries outlooks (at before).core (at before).model k i previous mean n d a).1 in
-      subst (λ (f : Decision). Meets count x.core (at before) (ahead x.core (entries_at entries outlooks i)) f) (sym c.1)
-      (subst (λ (w : Counts). Meets count x.core (at before) w (decision count trimmed (at before).core (at before).model (ahead (at before).core (entries_at entries outlooks i)) c.0 previous mean))
+      let a = answered meaning entries outlooks x cs before after (Choose k i previous mean, Chosen n d) q in
+      let g = goes_past meaning entries outlooks x cs before ((Choose k i previous mean, Chosen n d) ∷ after) q in
+      let c = (choice_made meaning entries outlooks (at before).core (at before).model k i previous mean n d a).1 in
+      subst (λ (f : Decision). Meets meaning x.core (at before) (ahead x.core (entries_at entries outlooks i)) f) (sym c.1)
+      (subst (λ (w : Counts). Meets meaning x.core (at before) w (decision meaning (at before).core (at before).model (ahead (at before).core (entries_at entries outlooks i)) c.0 previous mean))
       (same_ahead (at before).core x.core (entries_at entries outlooks i) g.profile)
       (meets hunts o (at before) g.profile (ahead (at before).core (entries_at entries outlooks i)) c.0 previous mean))
 
   -- all of them
-  pub lawful : Hunts → Opened x.core → Laws count trimmed next entries outlooks x whole
+  pub lawful : Hunts → Opened x.core → Laws meaning entries outlooks x whole
   lawful hunts o = record { fullness = full_law; charges = charge_law o; numbers = number_law o; crossing = crossing_law hunts o }

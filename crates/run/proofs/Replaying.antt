@@ -1,18 +1,19 @@
 -- The loop of a run: after i calls, what the rest of them gives behind the answers so far is what all of them give.
-use Rattle.std.proofs.Common.{◌≡◌, ℕ, ◌+◌, ◌<◌, ◌≤◌, Bool, List, [], ◌∷◌, ◌++◌, length, get_or, drop, ℤ, sym, refl, ap, ◌∙◌}
+use Rattle.std.proofs.Common.{◌≡◌, ℕ, ◌+◌, ◌<◌, ◌≤◌, List, [], ◌∷◌, ◌++◌, length, get_or, drop, sym, refl, ap, ◌∙◌}
 use Rattle.std.proofs.lemmas.List.{append_assoc, append-nil, at_drop_more, at_drop_all}
+use Rattle.model.specs.Meaning.{Meaning}
 use Rattle.calls.specs.declared.call.Call.{Call}
 use Rattle.calls.specs.declared.answer.Answer.{Answer}
 use Rattle.controller.specs.declared.state.Core.{Core}
 use Rattle.controller.specs.Performing.{answer_to, core_after, model_after}
 use Rattle.run.specs.Answers.{State, state_after_all, answers_to}
 
-module _ {M O : Type 0} (count : M → ℕ → ℤ → ℕ) (trimmed : M → ℕ → ℤ → ℤ → ℤ → ℤ → Bool → ℤ) (next : M → ℕ → ℕ → ℤ → Bool → ℕ → M) (entries : O → List ℕ) (outlooks : List O) where
+module _ {M O : Type 0} (meaning : Meaning M) (entries : O → List ℕ) (outlooks : List O) where
   abbrev told : State M → List Call → List Answer
-  told x cs = answers_to count trimmed next entries outlooks x cs
+  told x cs = answers_to meaning entries outlooks x cs
 
   abbrev left : State M → List Call → State M
-  left x cs = state_after_all count trimmed next entries outlooks x cs
+  left x cs = state_after_all meaning entries outlooks x cs
 
   module _ (x0 : State M) (calls : List Call) where
     -- after i calls, in the state x, with the answers so far
@@ -24,7 +25,7 @@ module _ {M O : Type 0} (count : M → ℕ → ℤ → ℕ) (trimmed : M → ℕ
     replay_none answers e = record { told_is = rw e; left_is = refl }
 
     pub replay_more : (i : ℕ) (c : Call) (e : Call) (s t : Core) (m n : M) (answers answers' : List Answer) (a : Answer) → i < length calls → c ≡ get_or calls i e
-        → a ≡ answer_to count trimmed next entries outlooks s m c → t ≡ core_after count trimmed next entries outlooks s m c → n ≡ model_after count trimmed next entries outlooks s m c
+        → a ≡ answer_to meaning entries outlooks s m c → t ≡ core_after meaning entries outlooks s m c → n ≡ model_after meaning entries outlooks s m c
         → answers' ≡ answers ++ a ∷ [] → Replaying i s m answers → Replaying (i + 1) t n answers'
     replay_more i c e s t m n answers answers' a l g ea et en ev h =
         let x : State M = record { core = s; model = m } in

@@ -1,5 +1,6 @@
 -- What a controller answers to a list of calls, one after another, and what it holds after them.
-use Rattle.std.specs.Prelude.{ℕ, Bool, List, [], ◌∷◌, ℤ}
+use Rattle.std.specs.Prelude.{ℕ, List, [], ◌∷◌}
+use Rattle.model.specs.Meaning.{Meaning}
 use Rattle.calls.specs.declared.call.Call.{Call}
 use Rattle.calls.specs.declared.answer.Answer.{Answer}
 use Rattle.controller.specs.declared.state.Core.{Core}
@@ -10,12 +11,12 @@ pub record State (M : Type 0) : Type 0 where
   pub core : Core
   pub model : M
 
-module _ {M O : Type 0} (count : M → ℕ → ℤ → ℕ) (trimmed : M → ℕ → ℤ → ℤ → ℤ → ℤ → Bool → ℤ) (next : M → ℕ → ℕ → ℤ → Bool → ℕ → M) (entries : O → List ℕ) (outlooks : List O) where
+module _ {M O : Type 0} (meaning : Meaning M) (entries : O → List ℕ) (outlooks : List O) where
   -- after one call
   abbrev pub state_after : State M → Call → State M
   state_after x c = record {
-    core = core_after count trimmed next entries outlooks x.core x.model c;
-    model = model_after count trimmed next entries outlooks x.core x.model c;
+    core = core_after meaning entries outlooks x.core x.model c;
+    model = model_after meaning entries outlooks x.core x.model c;
   }
 
   -- after the calls of a list
@@ -26,4 +27,4 @@ module _ {M O : Type 0} (count : M → ℕ → ℤ → ℕ) (trimmed : M → ℕ
   -- the answers to the calls of a list
   abbrev pub answers_to : State M → List Call → List Answer
   answers_to x [] = []
-  answers_to x (c ∷ cs) = answer_to count trimmed next entries outlooks x.core x.model c ∷ answers_to (state_after x c) cs
+  answers_to x (c ∷ cs) = answer_to meaning entries outlooks x.core x.model c ∷ answers_to (state_after x c) cs

@@ -1,6 +1,7 @@
 -- The laws of a controller, over the history of its calls since the opening.
 use Rattle.std.specs.Prelude.{◌≡◌, ℕ, ◌+◌, ◌%◌, ◌^◌, ◌≤◌, Bool, true, List, [], ◌∷◌, ◌++◌, map, ℤ, ◌+ℤ◌, ◌≤ℤ◌, Option}
 use Rattle.std.specs.List.{ContainsAt, AllByRecursion}
+use Rattle.model.specs.Meaning.{Meaning}
 use Rattle.outlook.specs.declared.counts.Counts.{Counts}
 use Rattle.search.specs.Predict.{forecast}
 use Rattle.search.specs.Hunt.{Hits}
@@ -87,15 +88,15 @@ Numbers all =
 -- the figures of a choice in a state, by the counts a of the frames ahead: the total is that of the rule for totals, at
 -- most 60 bases were compared, and the found base predicts the total or lies where the predictions cross it; bottom and
 -- top are those of the core as it opened
-pub record Meets {M : Type 0} (count : M → ℕ → ℤ → ℕ) (opened : Core) (x : State M) (a : Counts) (d : Decision) : Type 0 where
+pub record Meets {M : Type 0} (meaning : Meaning M) (opened : Core) (x : State M) (a : Counts) (d : Decision) : Type 0 where
   pub total_is : d.total ≡ total x.core a
   pub few : d.tries ≤ 60
-  pub hits : Hits (forecast count x.model a.kinds) d.total (bottom opened) (top opened) d.found
+  pub hits : Hits (forecast meaning x.model a.kinds) d.total (bottom opened) (top opened) d.found
 
-module _ {M O : Type 0} (count : M → ℕ → ℤ → ℕ) (trimmed : M → ℕ → ℤ → ℤ → ℤ → ℤ → Bool → ℤ) (next : M → ℕ → ℕ → ℤ → Bool → ℕ → M) (entries : O → List ℕ) (outlooks : List O) (opened : State M) where
+module _ {M O : Type 0} (meaning : Meaning M) (entries : O → List ℕ) (outlooks : List O) (opened : State M) where
   -- what the controller held after a part of the history
   abbrev pub state_in : History → State M
-  state_in before = state_after_all count trimmed next entries outlooks opened (map (λ e. e.0) before)
+  state_in before = state_after_all meaning entries outlooks opened (map (λ e. e.0) before)
 
   -- every accepted choice does so, by the core and the model at that choice and the outlook that it names, counted for
   -- delay units
@@ -103,7 +104,7 @@ module _ {M O : Type 0} (count : M → ℕ → ℤ → ℕ) (trimmed : M → ℕ
   Crossing all =
       (before after : History) (k i : ℕ) (previous : Option ℤ) (mean : ℤ) (n : ℕ) (d : Decision)
       → all ≡ before ++ (Choose k i previous mean, Chosen n d) ∷ after
-      → Meets count opened.core (state_in before) (ahead opened.core (entries_at entries outlooks i)) d
+      → Meets meaning opened.core (state_in before) (ahead opened.core (entries_at entries outlooks i)) d
 
   -- all laws of a history
   pub record Laws (all : History) : Type 0 where

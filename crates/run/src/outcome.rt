@@ -1,6 +1,9 @@
 // What comes of a run.
+ghost use Rattle.std.specs.Prelude.{◌≡◌};
+ghost use Rattle.run.specs.declared.outcome.Fault.TheVariants.{Opening};
+
 use calls::Answer;
-use controller::Controller;
+use controller::{Controller, Unopened};
 use model::Refusal;
 
 // A run that was performed: its controller as the last call left it, and the answers to the calls.
@@ -24,4 +27,17 @@ pub enum Fault {
 pub struct NotRun<M> {
     pub fault: Fault,
     pub model: M,
+}
+
+// A controller that was not opened makes no run.
+impl<M> From<Unopened<M>> for NotRun<M> {
+    ghost from_gives = { λ u n. n ≡ record { fault = Opening u.refusal; model = u.model } };
+
+    fn from(unopened: Unopened<M>) -> NotRun<M> {
+        let Unopened { refusal, model } = unopened;
+        NotRun {
+            fault: Fault::Opening(refusal),
+            model,
+        }
+    }
 }

@@ -7,8 +7,8 @@ ghost use Rattle.run.specs.Runs.{Ran};
 use crate::outcome::{Fault, NotRun, Run};
 use aim::highest_of;
 use calls::{Answer, Call};
-use controller::{Controller, Unopened};
-use flat_laws::logs_stand;
+use controller::Controller;
+use flat::logs_stand;
 use model::{BitModel, Settings};
 use outlook::Outlook;
 use search::hunts_stand;
@@ -22,11 +22,11 @@ fn perform_next<M: BitModel, O: Outlook>(
     answers: &mut Vec<Answer>,
 )
     requires room { vec_len answers.old < vec_capacity answers.old }
-    ensures answers { answers.new.items ≡ answers.old.items ++ answer_to M.BitModel.count M.BitModel.trimmed M.BitModel.next O.Outlook.entries outlooks.now controller.old.core controller.old.model call ∷ [] }
+    ensures answers { answers.new.items ≡ answers.old.items ++ answer_to M.meaning O.entries outlooks.now controller.old.core controller.old.model call ∷ [] }
     ensures len { vec_len answers.new ≡ vec_len answers.old + 1 }
     ensures room { vec_capacity answers.new ≡ vec_capacity answers.old }
-    ensures core { controller.new.core ≡ core_after M.BitModel.count M.BitModel.trimmed M.BitModel.next O.Outlook.entries outlooks.now controller.old.core controller.old.model call }
-    ensures model { controller.new.model ≡ model_after M.BitModel.count M.BitModel.trimmed M.BitModel.next O.Outlook.entries outlooks.now controller.old.core controller.old.model call }
+    ensures core { controller.new.core ≡ core_after M.meaning O.entries outlooks.now controller.old.core controller.old.model call }
+    ensures model { controller.new.model ≡ model_after M.meaning O.entries outlooks.now controller.old.core controller.old.model call }
 {
     let answer = controller.perform(outlooks, call);
     answers.push_reserved(answer);
@@ -42,9 +42,9 @@ fn perform_all<M: BitModel, O: Outlook>(
     requires none { answers.old.items ≡ [] }
     requires len { vec_len answers.old ≡ 0 }
     requires room { length calls.now ≤ vec_capacity answers.old }
-    ensures answers { answers.new.items ≡ answers_to M.BitModel.count M.BitModel.trimmed M.BitModel.next O.Outlook.entries outlooks.now (record { core = controller.old.core; model = controller.old.model }) calls.now }
-    ensures core { controller.new.core ≡ (state_after_all M.BitModel.count M.BitModel.trimmed M.BitModel.next O.Outlook.entries outlooks.now (record { core = controller.old.core; model = controller.old.model }) calls.now).core }
-    ensures model { controller.new.model ≡ (state_after_all M.BitModel.count M.BitModel.trimmed M.BitModel.next O.Outlook.entries outlooks.now (record { core = controller.old.core; model = controller.old.model }) calls.now).model }
+    ensures answers { answers.new.items ≡ answers_to M.meaning O.entries outlooks.now (record { core = controller.old.core; model = controller.old.model }) calls.now }
+    ensures core { controller.new.core ≡ (state_after_all M.meaning O.entries outlooks.now (record { core = controller.old.core; model = controller.old.model }) calls.now).core }
+    ensures model { controller.new.model ≡ (state_after_all M.meaning O.entries outlooks.now (record { core = controller.old.core; model = controller.old.model }) calls.now).model }
 {
     for call in calls {
         perform_next(controller, outlooks, *call, answers);
@@ -63,22 +63,15 @@ pub fn run<M: BitModel, O: Outlook>(
     outlooks: &[O],
     calls: &[Call],
 ) -> Result<Run<M>, NotRun<M>>
-    ensures { Ran M.BitModel.count M.BitModel.trimmed M.BitModel.next O.Outlook.entries outlooks.now settings.now model calls.now result }
+    ensures { Ran M.meaning O.entries outlooks.now settings.now model calls.now result }
 {
-    let mut answers = match Vec::with_capacity(heap, calls.len()) {
-        Ok(answers) => answers,
-        Err(_) => return Err(NotRun {
+    let Ok(mut answers) = Vec::with_capacity(heap, calls.len()) else {
+        return Err(NotRun {
             fault: Fault::Memory,
             model,
-        }),
+        });
     };
-    let mut controller = match Controller::open(settings, model) {
-        Ok(controller) => controller,
-        Err(Unopened { refusal, model }) => return Err(NotRun {
-            fault: Fault::Opening(refusal),
-            model,
-        }),
-    };
+    let mut controller = Controller::open(settings, model)?;
     // What the laws of choices rest on.
     hunts_stand();
     logs_stand();

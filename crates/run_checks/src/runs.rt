@@ -166,7 +166,7 @@ fn refused_opening(heap: Global, curve: Curve, settings: Settings) -> u8 {
     match run(heap, &settings, curve, &outlooks, &[Call::Status]) {
         Ok(_) => 0,
         Err(NotRun { fault, model: _ }) => match fault {
-            Fault::Opening(refusal) => refusal.number(),
+            Fault::Opening(refusal) => refusal.into(),
             Fault::Memory => 0,
         },
     }

@@ -117,7 +117,7 @@ fn what_stands(rt: HostRuntime) -> Result<(), Fail> {
     assert_eq!(rt;
         last,
         Standing {
-            outlook: 2,
+            outlook: Some(2),
             stair: None,
         }
     );

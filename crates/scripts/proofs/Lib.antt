@@ -1,4 +1,1 @@
-mod Outlooks
-mod Reading
-mod Lines
-mod Texts
+mod Adding

@@ -1,22 +1,21 @@
 -- What a script holds, and how each line adds to it.
-use Rattle.std.specs.Prelude.{◌≡◌, ℕ, cond, List, [], ◌∷◌, ◌++◌, map, length, take, drop, Some, None, Ok, Err, vec_items, codes, Option, Result, ◌==◌, slice_index_or}
+use Rattle.std.specs.Prelude.{ℕ, cond, List, [], ◌∷◌, ◌++◌, map, length, take, drop, Some, None, Ok, Err, vec_items, codes, Option, Result, ◌==◌, slice_index_or}
 use Rattle.std.specs.Str.{bytes_eq}
 use Rattle.words.specs.Words.{then, unsigned}
+use Rattle.operands.specs.Line.{values}
 use Rattle.outlook.specs.Bytes.{repeated}
+use Rattle.outlook.specs.Either.{entries_known}
 use Rattle.outlook.specs.Making.{list_question, pattern_question}
-use Rattle.outlook.specs.Numbers.{number_of}
+use Rattle.outlook.specs.declared.known.Known.{Known}
+use Rattle.outlook.specs.declared.refusal.NotMade.{NotMade}
+use Rattle.outlook.specs.declared.refusal.NotMade.TheVariants as unmade
 use Rattle.outlook.specs.declared.refusal.Refusal as outlook
-use Rattle.stair.specs.Stairs.{number, stair_made}
+use Rattle.stair.specs.Stairs.{stair_made}
 use Rattle.stair.specs.declared.refusal.Refusal as stair
 use Rattle.stair.specs.declared.stair.Stair.{Stair}
-use Rattle.scripts.specs.declared.fault.Fault as fault
-use Rattle.scripts.specs.declared.fault.Fault.TheVariants.{Malformed, NotText, NoMemory}
 use Rattle.scripts.specs.declared.line.Line.{Line}
 use Rattle.scripts.specs.declared.line.Line.TheVariants as line
-use Rattle.scripts.specs.declared.line.Made.{Made}
-use Rattle.scripts.specs.declared.line.Made.TheVariants.{At, Refused}
 use Rattle.scripts.specs.declared.script.Script.{Script}
-use Rattle.outlook.specs.Either.{entries_known}
 use Rattle.scripts.specs.Said.{said}
 
 -- the lines of a script, the entries of its outlooks and its stairs, each in their order
@@ -41,55 +40,54 @@ empty = record { lines = []; outlooks = []; stairs = [] }
 abbrev pub with_line : Line → Read → Read
 with_line l s = record { lines = s.lines ++ (l ∷ []); outlooks = s.outlooks; stairs = s.stairs }
 
--- the numbers of k bits that some words write, where each writes one
-unfoldable pub numbers : ℕ → List (List ℕ) → Option (List ℕ)
-numbers k [] = Some []
-numbers k (w ∷ ws) = then (unsigned k w) (λ n. then (numbers k ws) (λ ns. Some (n ∷ ns)))
+-- what was made is kept behind the others; a refusal changes nothing
+abbrev pub kept : {X E : Type 0} → Result X E → List X → List X
+kept (Ok x) xs = xs ++ (x ∷ [])
+kept (Err e) xs = xs
+
+-- the place of what was made behind the others, or its refusal
+abbrev pub place_of : {X E : Type 0} → Result X E → List X → Result ℕ E
+place_of (Ok x) xs = Ok (length xs)
+place_of (Err e) xs = Err e
 
 -- four rows of 64 counts
 abbrev pub rows : List ℕ → List (List ℕ)
 rows cs = take 64 (drop 0 cs) ∷ take 64 (drop 64 cs) ∷ take 64 (drop 128 cs) ∷ take 64 (drop 192 cs) ∷ []
 
--- one line and one stair more
-abbrev pub with_steps : Line → Stair → Read → Read
-with_steps l m s = record { lines = s.lines ++ (l ∷ []); outlooks = s.outlooks; stairs = s.stairs ++ (m ∷ []) }
-
--- a stair that is made is kept behind the others, and its line tells its place; a refused one leaves its number
+-- a stair that is made is kept behind the others, and its line tells its place; a refused one leaves its refusal
 abbrev pub with_stair : Result Stair stair.Refusal → Read → Read
-with_stair (Ok m) s = with_steps (line.Stair (At (length s.stairs))) m s
-with_stair (Err e) s = with_line (line.Stair (Refused (number e))) s
+with_stair made s = record {
+  lines = s.lines ++ (line.Stair (place_of made s.stairs) ∷ []);
+  outlooks = s.outlooks;
+  stairs = kept made s.stairs;
+}
 
 -- the line of a stair: 256 counts of 32 bits
 unfoldable pub stair_line : List (List ℕ) → Read → Option Read
 stair_line ws s =
-    cond (length ws == 257) (then (numbers 32 (drop 1 ws)) (λ cs. Some (with_stair (stair_made (rows cs)) s))) None
+    cond (length ws == 257) (then (values (unsigned 32) (drop 1 ws)) (λ cs. Some (with_stair (stair_made (rows cs)) s))) None
 
--- the number of the question that refuses an outlook, if one does
-abbrev pub refusing : Option outlook.Refusal → Option ℕ
-refusing None = None
-refusing (Some q) = number_of q
+-- the entries of an outlook, unless a question refuses it
+abbrev pub unless : Option outlook.Refusal → List ℕ → Result (List ℕ) outlook.Refusal
+unless None entries = Ok entries
+unless (Some q) entries = Err q
 
--- one line and one outlook more
-abbrev pub with_entries : Line → List ℕ → Read → Read
-with_entries l entries s = record {
-  lines = s.lines ++ (l ∷ []);
-  outlooks = s.outlooks ++ (entries ∷ []);
+-- an outlook that is made is kept behind the others, and its line tells its place; a refused one leaves its refusal
+abbrev pub with_outlook : (Result ℕ outlook.Refusal → Line) → Result (List ℕ) outlook.Refusal → Read → Read
+with_outlook f made s = record {
+  lines = s.lines ++ (f (place_of made s.outlooks) ∷ []);
+  outlooks = kept made s.outlooks;
   stairs = s.stairs;
 }
 
--- an outlook that is made is kept behind the others, and its line tells its place; a refused one leaves its number
-abbrev pub with_outlook : (Made → Line) → Option ℕ → List ℕ → Read → Read
-with_outlook f None entries s = with_entries (f (At (length s.outlooks))) entries s
-with_outlook f (Some n) entries s = with_line (f (Refused n)) s
-
 -- the line of a list: any number of bytes
 unfoldable pub list_line : List (List ℕ) → Read → Option Read
-list_line ws s = then (numbers 8 (drop 1 ws)) (λ bs. Some (with_outlook (λ m. line.List m) (refusing (list_question bs)) bs s))
+list_line ws s = then (values (unsigned 8) (drop 1 ws)) (λ bs. Some (with_outlook (λ p. line.List p) (unless (list_question bs) bs) s))
 
 -- the line of a pattern: any number of bytes, which stand for their repetition
 unfoldable pub pattern_line : List (List ℕ) → Read → Option Read
 pattern_line ws s =
-    then (numbers 8 (drop 1 ws)) (λ bs. Some (with_outlook (λ m. line.Pattern m) (refusing (pattern_question bs)) (repeated bs) s))
+    then (values (unsigned 8) (drop 1 ws)) (λ bs. Some (with_outlook (λ p. line.Pattern p) (unless (pattern_question bs) (repeated bs)) s))
 
 -- any other line
 unfoldable pub other_line : List (List ℕ) → Read → Option Read
@@ -102,8 +100,8 @@ words_read ws s =
     (cond (bytes_eq (slice_index_or ws 0 []) (codes "list")) (list_line ws s)
     (cond (bytes_eq (slice_index_or ws 0 []) (codes "pattern")) (pattern_line ws s) (other_line ws s)))
 
--- why something is told as wrong: it is nothing; want of memory says nothing
-abbrev pub Told : {X : Type 0} → Option X → fault.Fault → Type 0
-Told o (Malformed m) = o ≡ None
-Told o NotText = ⊥
-Told o NoMemory = Unit {0}
+-- an outlook that was made, or its refusal; nothing for want of memory
+abbrev pub settled : Result Known NotMade → Option (Result Known outlook.Refusal)
+settled (Ok k) = Some (Ok k)
+settled (Err (unmade.Refused q)) = Some (Err q)
+settled (Err unmade.NoMemory) = None

@@ -1,14 +1,10 @@
 -- The line that words make: its name, and then operands of their types, as many as it takes.
 use Rattle.std.specs.Prelude.{ℕ, cond, List, [], length, Some, None, codes, Option, ◌==◌, slice_index_or}
 use Rattle.std.specs.Str.{bytes_eq}
-use Rattle.words.specs.Words.{then, unsigned, signed, mark_of}
+use Rattle.words.specs.Words.{then, unsigned, signed, mark_of, maybe}
 use Rattle.model.specs.declared.settings.Settings.{Settings}
 use Rattle.scripts.specs.declared.line.Line.{Line}
 use Rattle.scripts.specs.declared.line.Line.TheVariants.{Curve, Open, Choose, Trial, Report, Withdraw, Show, Status}
-
--- a dash says that an operand is absent; any other word is read
-unfoldable pub maybe : {X : Type 0} → (List ℕ → Option X) → List ℕ → Option (Option X)
-maybe read w = cond (bytes_eq w (codes "-")) (Some None) (then (read w) (λ x. Some (Some x)))
 
 -- a name alone
 abbrev pub alone : Line → List (List ℕ) → Option Line

@@ -1,36 +1,25 @@
 // One line of a script, and the lines that their words alone make.
 ghost use Rattle.std.specs.Prelude.{◌≡◌};
 ghost use Rattle.std.specs.Result.{result_ok};
-ghost use Rattle.words.specs.Words.{texts};
+ghost use Rattle.operands.specs.Line.{words_of};
 ghost use Rattle.scripts.specs.Said.{alone, opening, opened, choice, trial, report, withdrawal, said};
 
-use crate::fault::Malformed;
-use crate::operands::{
-    byte_at, check_count, mark_at, maybe_byte_at, maybe_signed_at, maybe_word32_at, signed_at,
-    word32_at, word64_at,
-};
 use model::Settings;
-use words::word_at;
+use operands::{Malformed, Operands};
 
-// What came of a line that makes an outlook or a stair: its place among those of the script, or the number of
-// the question that refused it.
-#[derive(Clone, Copy, Debug, PartialEq, Eq)]
-pub enum Made {
-    At(usize),
-    Refused(u8),
-}
-
-// A line of a script.
+// A line of a script. One that makes an outlook or a stair tells its place among those of the script, or why it was
+// refused. Subtypes and samplings are numbers as they were written: bad ones are for the calls to refuse. The calls
+// stand here as cases of their own, and not as recorded ones, since a line does not say which outlook its choice sees.
 #[derive(Clone, Copy)]
 pub enum Line {
     // The curve is the model of the openings that follow.
     Curve,
     // A stair is, unless it is refused.
-    Stair(Made),
+    Stair(Result<usize, stair::Refusal>),
     // A list is the outlook of the choices that follow, unless it is refused.
-    List(Made),
+    List(Result<usize, outlook::Refusal>),
     // A pattern is, unless it is refused.
-    Pattern(Made),
+    Pattern(Result<usize, outlook::Refusal>),
     // A run begins.
     Open(Settings),
     // The calls of the run.
@@ -57,91 +46,90 @@ pub enum Line {
 }
 
 // A line that is its name alone.
-fn alone<'a>(words: &[&'a str], line: Line) -> Result<Line, Malformed<'a>>
-    ensures { result_ok result ≡ alone line (texts words.now) }
+fn alone<'a>(words: Operands<'_, 'a>, line: Line) -> Result<Line, Malformed<'a>>
+    ensures { result_ok result ≡ alone line (words_of words.entry) }
 {
-    check_count(words, 1, "")?;
+    words.takes(0, "")?;
     Ok(line)
 }
 
-fn settings_of<'a>(words: &[&'a str]) -> Result<Settings, Malformed<'a>>
-    ensures { result_ok result ≡ opening (texts words.now) }
+fn settings_of<'a>(words: Operands<'_, 'a>) -> Result<Settings, Malformed<'a>>
+    ensures { result_ok result ≡ opening (words_of words.entry) }
 {
-    check_count(
-        words,
-        13,
+    words.takes(
+        12,
         "WIDTH HEIGHT NUM DEN BITRATE DEPTH SAMPLING LOWEST HIGHEST INTERVAL DELAY DROPPING",
     )?;
     Ok(Settings {
-        width: word32_at(words, 1)?,
-        height: word32_at(words, 2)?,
-        numerator: word32_at(words, 3)?,
-        denominator: word32_at(words, 4)?,
-        bitrate: word32_at(words, 5)?,
-        depth: byte_at(words, 6)?,
-        sampling: byte_at(words, 7)?,
-        lowest: byte_at(words, 8)?,
-        highest: maybe_byte_at(words, 9)?,
-        interval: word32_at(words, 10)?,
-        delay: maybe_word32_at(words, 11)?,
-        dropping: mark_at(words, 12)?,
+        width: words.at(1)?,
+        height: words.at(2)?,
+        numerator: words.at(3)?,
+        denominator: words.at(4)?,
+        bitrate: words.at(5)?,
+        depth: words.at(6)?,
+        sampling: words.at(7)?,
+        lowest: words.at(8)?,
+        highest: words.at(9)?,
+        interval: words.at(10)?,
+        delay: words.at(11)?,
+        dropping: words.at(12)?,
     })
 }
 
-fn open<'a>(words: &[&'a str]) -> Result<Line, Malformed<'a>>
-    ensures { result_ok result ≡ opened (texts words.now) }
+fn open<'a>(words: Operands<'_, 'a>) -> Result<Line, Malformed<'a>>
+    ensures { result_ok result ≡ opened (words_of words.entry) }
 {
     Ok(Line::Open(settings_of(words)?))
 }
 
-fn choose<'a>(words: &[&'a str]) -> Result<Line, Malformed<'a>>
-    ensures { result_ok result ≡ choice (texts words.now) }
+fn choose<'a>(words: Operands<'_, 'a>) -> Result<Line, Malformed<'a>>
+    ensures { result_ok result ≡ choice (words_of words.entry) }
 {
-    check_count(words, 4, "SUBTYPE PREVIOUS MEAN")?;
+    words.takes(3, "SUBTYPE PREVIOUS MEAN")?;
     Ok(Line::Choose {
-        subtype: byte_at(words, 1)?,
-        previous: maybe_signed_at(words, 2)?,
-        mean: signed_at(words, 3)?,
+        subtype: words.at(1)?,
+        previous: words.at(2)?,
+        mean: words.at(3)?,
     })
 }
 
-fn trial<'a>(words: &[&'a str]) -> Result<Line, Malformed<'a>>
-    ensures { result_ok result ≡ trial (texts words.now) }
+fn trial<'a>(words: Operands<'_, 'a>) -> Result<Line, Malformed<'a>>
+    ensures { result_ok result ≡ trial (words_of words.entry) }
 {
-    check_count(words, 3, "TICKET BITS")?;
+    words.takes(2, "TICKET BITS")?;
     Ok(Line::Trial {
-        ticket: word64_at(words, 1)?,
-        bits: word32_at(words, 2)?,
+        ticket: words.at(1)?,
+        bits: words.at(2)?,
     })
 }
 
-fn report<'a>(words: &[&'a str]) -> Result<Line, Malformed<'a>>
-    ensures { result_ok result ≡ report (texts words.now) }
+fn report<'a>(words: Operands<'_, 'a>) -> Result<Line, Malformed<'a>>
+    ensures { result_ok result ≡ report (words_of words.entry) }
 {
-    check_count(words, 5, "TICKET BITS SHOWN DROPPABLE")?;
+    words.takes(4, "TICKET BITS SHOWN DROPPABLE")?;
     Ok(Line::Report {
-        ticket: word64_at(words, 1)?,
-        bits: word32_at(words, 2)?,
-        shown: mark_at(words, 3)?,
-        droppable: mark_at(words, 4)?,
+        ticket: words.at(1)?,
+        bits: words.at(2)?,
+        shown: words.at(3)?,
+        droppable: words.at(4)?,
     })
 }
 
-fn withdraw<'a>(words: &[&'a str]) -> Result<Line, Malformed<'a>>
-    ensures { result_ok result ≡ withdrawal (texts words.now) }
+fn withdraw<'a>(words: Operands<'_, 'a>) -> Result<Line, Malformed<'a>>
+    ensures { result_ok result ≡ withdrawal (words_of words.entry) }
 {
-    check_count(words, 2, "TICKET")?;
+    words.takes(1, "TICKET")?;
     Ok(Line::Withdraw {
-        ticket: word64_at(words, 1)?,
+        ticket: words.at(1)?,
     })
 }
 
 // The line that the words make, or the first thing that is wrong with them: the name, then the count of operands,
 // then each operand in order. Lines that make an outlook or a stair are none of these.
-pub(crate) fn line_of<'a>(words: &[&'a str]) -> Result<Line, Malformed<'a>>
-    ensures { result_ok result ≡ said (texts words.now) }
+pub(crate) fn line_of<'a>(words: Operands<'_, 'a>) -> Result<Line, Malformed<'a>>
+    ensures { result_ok result ≡ said (words_of words.entry) }
 {
-    match word_at(words, 0) {
+    match words.name() {
         "curve" => alone(words, Line::Curve),
         "open" => open(words),
         "choose" => choose(words),
@@ -150,6 +138,6 @@ pub(crate) fn line_of<'a>(words: &[&'a str]) -> Result<Line, Malformed<'a>>
         "withdraw" => withdraw(words),
         "show" => alone(words, Line::Show),
         "status" => alone(words, Line::Status),
-        name => Err(Malformed::Unknown(name)),
+        _ => Err(words.unknown("line")),
     }
 }

@@ -1,26 +1,24 @@
 // A script, and how the words of a line add to it.
-ghost use Rattle.std.specs.Prelude.{◌≡◌, ◌+◌, ◌≤◌, [], ◌∷◌, ◌++◌, length, take, drop, Some, None, vec_len, MatchResult};
-ghost use Rattle.outlook.specs.Numbers.{number_of};
-ghost use Rattle.words.specs.Words.{texts};
-ghost use Rattle.scripts.specs.Read.{numbers, rows, read_of, with_line, with_entries, with_steps, stair_line, list_line, pattern_line, other_line, words_read, Told};
-ghost use Rattle.outlook.specs.Either.{entries_known};
-ghost use Rattle.scripts.specs.declared.fault.Fault.TheVariants.{NoMemory};
+ghost use Rattle.std.specs.Prelude.{◌≡◌, length, Some, OnOk, IfOk, MatchResult};
+ghost use Rattle.operands.specs.Faults.{Told};
+ghost use Rattle.operands.specs.Line.{words_of};
+ghost use Rattle.operands.specs.declared.fault.Fault.TheVariants.{NoMemory};
+ghost use Rattle.scripts.specs.Read.{Read, empty, rows, read_of, with_line, place_of, kept, settled, stair_line, list_line, pattern_line, other_line, words_read};
 
-use crate::fault::Fault;
-use crate::line::{Line, Made, line_of};
-use crate::operands::{byte_at, check_count, word32_at};
-use outlook::{Known, List, Pattern, Refusal};
+use crate::line::{Line, line_of};
+use operands::{Fault, Operands, Reader};
+use outlook::{Known, List, NotMade, Pattern, Refusal};
 use stair::Stair;
-use std::alloc::Global;
-use words::word_at;
+use std::alloc::{AllocError, Global};
 
 // The steps of a row of a stair.
 const STEPS: usize = 64;
 
-// The words of a stair's line: its name, and a count for each step of its four rows.
-const STAIR_WORDS: usize = 257;
+// The operands of a stair's line: a count for each step of its four rows.
+const COUNTS: usize = 256;
 
-// The lines of a script, and the outlooks and stairs that they made, each in their order.
+// The lines of a script, and the outlooks and stairs that they made, each in their order. A line tells of what it made
+// by its place: a recorded call names an outlook so, by a rule, and a line that is copied cannot hold a list.
 #[derive(Drop)]
 pub struct Script {
     pub lines: Vec<Line>,
@@ -28,183 +26,120 @@ pub struct Script {
     pub stairs: Vec<Stair>,
 }
 
-// The numbers of 8 bits that all operands write.
-fn bytes_after<'a>(heap: Global, words: &[&'a str]) -> Result<Vec<u8>, Fault<'a>>
-    ensures { MatchResult result (λ v. numbers 8 (drop 1 (texts words.now)) ≡ Some v.items) (λ e. Told (numbers 8 (drop 1 (texts words.now))) e) }
-{
-    let mut bytes = Vec::new(heap);
-    for place in 1..words.len() {
-        match byte_at(words, place) {
-            Ok(byte) => {
-                if bytes.push(byte).is_err() {
-                    return Err(Fault::NoMemory);
-                }
-            }
-            Err(malformed) => return Err(Fault::Malformed(malformed)),
-        }
-    }
-    Ok(bytes)
-}
-
-// The numbers of 32 bits that all operands write.
-fn counts_after<'a>(heap: Global, words: &[&'a str]) -> Result<Vec<u32>, Fault<'a>>
-    ensures { MatchResult result (λ v. numbers 32 (drop 1 (texts words.now)) ≡ Some v.items) (λ e. Told (numbers 32 (drop 1 (texts words.now))) e) }
-{
-    let mut counts = Vec::new(heap);
-    for place in 1..words.len() {
-        match word32_at(words, place) {
-            Ok(count) => {
-                if counts.push(count).is_err() {
-                    return Err(Fault::NoMemory);
-                }
-            }
-            Err(malformed) => return Err(Fault::Malformed(malformed)),
-        }
-    }
-    Ok(counts)
-}
-
-// The row of a stair that begins at a place among the counts.
-fn row_of(counts: &[u32], from: usize) -> [u32; 64]
-    requires { from + 64 ≤ length counts.now }
-    ensures { result ≡ take 64 (drop from counts.now) }
-{
-    let mut row = [0; 64];
-    row.copy_from_slice(&counts[from..from + STEPS]);
-    row
-}
-
 // The four rows of a stair.
 fn rows_of(counts: &[u32]) -> [[u32; 64]; 4]
     requires { length counts.now ≡ 256 }
     ensures { result ≡ rows counts.now }
 {
-    [
-        row_of(counts, 0),
-        row_of(counts, STEPS),
-        row_of(counts, 2 * STEPS),
-        row_of(counts, 3 * STEPS),
-    ]
+    let (rows, _) = counts.as_chunks::<STEPS>();
+    <[[u32; 64]; 4]>::try_from(rows).unwrap()
 }
 
-// Puts a line behind the others.
-fn push_line<'a>(script: &mut Script, line: Line) -> Result<(), Fault<'a>>
-    ensures { MatchResult result (λ _. read_of script.new ≡ with_line line (read_of script.old)) (λ e. e ≡ NoMemory) }
+// The outlook that was made, or its refusal; want of memory stops the reading.
+fn settled<'a>(made: Result<Known, NotMade>) -> Result<Result<Known, Refusal>, Fault<'a>>
+    ensures { MatchResult result (λ known. settled made ≡ Some known) (λ e. e ≡ NoMemory) }
 {
-    match script.lines.push(line) {
-        Ok(()) => Ok(()),
-        Err(_) => Err(Fault::NoMemory),
+    match made {
+        Ok(known) => Ok(Ok(known)),
+        Err(NotMade::Refused(refusal)) => Ok(Err(refusal)),
+        Err(NotMade::NoMemory) => Err(Fault::NoMemory),
     }
 }
 
-// Keeps an outlook, and puts its line behind the others.
-fn push_outlook<'a>(script: &mut Script, known: Known, line: Line) -> Result<(), Fault<'a>>
-    ensures { MatchResult result (λ _. read_of script.new ≡ with_entries line (entries_known known) (read_of script.old)) (λ e. e ≡ NoMemory) }
+// Keeps what was made behind the others, and tells its place; a refusal is told alone.
+fn keep<T: Drop, E: Drop>(
+    items: &mut Vec<T>,
+    made: Result<T, E>,
+) -> Result<Result<usize, E>, AllocError>
+    ensures place { IfOk result (λ place. place ≡ place_of made items.old.items) }
+    ensures kept { OnOk result (items.new.items ≡ kept made items.old.items) }
 {
-    if script.outlooks.push(known).is_err() {
-        return Err(Fault::NoMemory);
-    }
-    push_line(script, line)
-}
-
-// Keeps a stair, and puts its line behind the others.
-fn push_stair<'a>(script: &mut Script, stair: Stair, line: Line) -> Result<(), Fault<'a>>
-    ensures { MatchResult result (λ _. read_of script.new ≡ with_steps line stair (read_of script.old)) (λ e. e ≡ NoMemory) }
-{
-    if script.stairs.push(stair).is_err() {
-        return Err(Fault::NoMemory);
-    }
-    push_line(script, line)
-}
-
-// The number of the question that refused an outlook; want of memory has none.
-fn number_of<'a>(refusal: Refusal) -> Result<u8, Fault<'a>>
-    ensures { MatchResult result (λ n. number_of refusal ≡ Some n) (λ e. e ≡ NoMemory) }
-{
-    match refusal.number() {
-        Some(n) => Ok(n),
-        None => Err(Fault::NoMemory),
-    }
-}
-
-// Reads the line of a stair.
-fn read_stair<'a>(heap: Global, script: &mut Script, words: &[&'a str]) -> Result<(), Fault<'a>>
-    ensures { MatchResult result (λ _. stair_line (texts words.now) (read_of script.old) ≡ Some (read_of script.new)) (λ e. Told (stair_line (texts words.now) (read_of script.old)) e) }
-{
-    if let Err(malformed) = check_count(words, STAIR_WORDS, "C0 ... C255") {
-        return Err(Fault::Malformed(malformed));
-    }
-    let counts = counts_after(heap, words)?;
-    match Stair::new(rows_of(counts.as_slice())) {
-        Ok(stair) => {
-            let place = script.stairs.len();
-            push_stair(script, stair, Line::Stair(Made::At(place)))
+    match made {
+        Ok(item) => {
+            let place = items.len();
+            items.push(item)?;
+            Ok(Ok(place))
         }
-        Err(refusal) => push_line(script, Line::Stair(Made::Refused(refusal.number()))),
+        Err(refusal) => Ok(Err(refusal)),
     }
 }
 
-// Reads the line of a list.
-fn read_list<'a>(heap: Global, script: &mut Script, words: &[&'a str]) -> Result<(), Fault<'a>>
-    ensures { MatchResult result (λ _. list_line (texts words.now) (read_of script.old) ≡ Some (read_of script.new)) (λ e. Told (list_line (texts words.now) (read_of script.old)) e) }
-{
-    let bytes = bytes_after(heap, words)?;
-    match List::new(heap, bytes.as_slice()) {
-        Ok(list) => {
-            let place = script.outlooks.len();
-            push_outlook(script, Known::Listed(list), Line::List(Made::At(place)))
-        }
-        Err(refusal) => {
-            let n = number_of(refusal)?;
-            push_line(script, Line::List(Made::Refused(n)))
+impl Script {
+    // A script without lines.
+    pub(crate) fn new(heap: Global) -> Script
+        ensures { read_of result ≡ empty }
+    {
+        Script {
+            lines: Vec::new(heap),
+            outlooks: Vec::new(heap),
+            stairs: Vec::new(heap),
         }
     }
-}
 
-// Reads the line of a pattern.
-fn read_pattern<'a>(heap: Global, script: &mut Script, words: &[&'a str]) -> Result<(), Fault<'a>>
-    ensures { MatchResult result (λ _. pattern_line (texts words.now) (read_of script.old) ≡ Some (read_of script.new)) (λ e. Told (pattern_line (texts words.now) (read_of script.old)) e) }
-{
-    let bytes = bytes_after(heap, words)?;
-    match Pattern::new(heap, bytes.as_slice()) {
-        Ok(pattern) => {
-            let place = script.outlooks.len();
-            push_outlook(
-                script,
-                Known::Repeated(pattern),
-                Line::Pattern(Made::At(place)),
-            )
-        }
-        Err(refusal) => {
-            let n = number_of(refusal)?;
-            push_line(script, Line::Pattern(Made::Refused(n)))
-        }
+    // Puts a line behind the others.
+    fn push_line(&mut self, line: Line) -> Result<(), AllocError>
+        ensures { OnOk result (read_of self.new ≡ with_line line (read_of self.old)) }
+    {
+        self.lines.push(line)?;
+        Ok(())
+    }
+
+    // Reads the line of a stair.
+    fn read_stair<'a>(&mut self, heap: Global, words: Operands<'_, 'a>) -> Result<(), Fault<'a>>
+        ensures { MatchResult result (λ _. stair_line (words_of words.entry) (read_of self.old) ≡ Some (read_of self.new)) (λ e. Told (stair_line (words_of words.entry) (read_of self.old)) e) }
+    {
+        words.takes(COUNTS, "C0 ... C255")?;
+        let counts = words.all::<u32>(heap)?;
+        let place = keep(&mut self.stairs, Stair::new(rows_of(counts.as_slice())))?;
+        self.push_line(Line::Stair(place))?;
+        Ok(())
+    }
+
+    // Reads the line of a list.
+    fn read_list<'a>(&mut self, heap: Global, words: Operands<'_, 'a>) -> Result<(), Fault<'a>>
+        ensures { MatchResult result (λ _. list_line (words_of words.entry) (read_of self.old) ≡ Some (read_of self.new)) (λ e. Told (list_line (words_of words.entry) (read_of self.old)) e) }
+    {
+        let bytes = words.all::<u8>(heap)?;
+        let list = settled(List::new(heap, bytes.as_slice()).map(Known::Listed))?;
+        let place = keep(&mut self.outlooks, list)?;
+        self.push_line(Line::List(place))?;
+        Ok(())
+    }
+
+    // Reads the line of a pattern: as that of a list, but for the type that is made. One function for both would take
+    // the making and the line as closures with their contracts, which is no plainer than these four calls.
+    fn read_pattern<'a>(&mut self, heap: Global, words: Operands<'_, 'a>) -> Result<(), Fault<'a>>
+        ensures { MatchResult result (λ _. pattern_line (words_of words.entry) (read_of self.old) ≡ Some (read_of self.new)) (λ e. Told (pattern_line (words_of words.entry) (read_of self.old)) e) }
+    {
+        let bytes = words.all::<u8>(heap)?;
+        let pattern = settled(Pattern::new(heap, bytes.as_slice()).map(Known::Repeated))?;
+        let place = keep(&mut self.outlooks, pattern)?;
+        self.push_line(Line::Pattern(place))?;
+        Ok(())
+    }
+
+    // Reads any other line.
+    fn read_other<'a>(&mut self, words: Operands<'_, 'a>) -> Result<(), Fault<'a>>
+        ensures { MatchResult result (λ _. other_line (words_of words.entry) (read_of self.old) ≡ Some (read_of self.new)) (λ e. Told (other_line (words_of words.entry) (read_of self.old)) e) }
+    {
+        self.push_line(line_of(words)?)?;
+        Ok(())
     }
 }
 
-// Reads any other line.
-fn read_other<'a>(script: &mut Script, words: &[&'a str]) -> Result<(), Fault<'a>>
-    ensures { MatchResult result (λ _. other_line (texts words.now) (read_of script.old) ≡ Some (read_of script.new)) (λ e. Told (other_line (texts words.now) (read_of script.old)) e) }
-{
-    let line = match line_of(words) {
-        Ok(line) => line,
-        Err(malformed) => return Err(Fault::Malformed(malformed)),
-    };
-    push_line(script, line)
-}
+impl Reader for Script {
+    ghost Held = { Read };
 
-// Adds what the words of a line make to the script.
-pub(crate) fn read_words<'a>(
-    heap: Global,
-    script: &mut Script,
-    words: &[&'a str],
-) -> Result<(), Fault<'a>>
-    ensures { MatchResult result (λ _. words_read (texts words.now) (read_of script.old) ≡ Some (read_of script.new)) (λ e. Told (words_read (texts words.now) (read_of script.old)) e) }
-{
-    match word_at(words, 0) {
-        "stair" => read_stair(heap, script, words),
-        "list" => read_list(heap, script, words),
-        "pattern" => read_pattern(heap, script, words),
-        _ => read_other(script, words),
+    ghost held = { read_of };
+
+    ghost adds = { words_read };
+
+    fn add<'a>(&mut self, heap: Global, words: Operands<'_, 'a>) -> Result<(), Fault<'a>> {
+        match words.name() {
+            "stair" => self.read_stair(heap, words),
+            "list" => self.read_list(heap, words),
+            "pattern" => self.read_pattern(heap, words),
+            _ => self.read_other(words),
+        }
     }
 }

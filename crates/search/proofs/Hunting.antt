@@ -1,10 +1,8 @@
-use Rattle.std.proofs.Common.{◌≡◌, ℕ, zero, suc, ◌+◌, ◌-◌, ◌*◌, ◌^◌, ◌<◌, ◌≤◌, true, false, ◌⊎◌, ℤ, pos, negsuc, ◌+ℤ◌, ◌-ℤ◌, neg_ℤ, ◌≤ℤ◌, ◌<ℤ◌, sym, refl, ◌∙◌, subst, inl, inr, ⊎_elim, arith, w64, SFits, to_z, of_z}
+use Rattle.std.proofs.Common.{◌≡◌, ℕ, zero, suc, ◌+◌, ◌*◌, ◌^◌, ◌≤◌, true, false, ◌⊎◌, ℤ, pos, negsuc, ◌+ℤ◌, ◌-ℤ◌, neg_ℤ, ◌≤ℤ◌, ◌<ℤ◌, refl, subst, inl, inr, ⊎_elim, arith}
 use native.Mathlib.Nat.{pow-succ'}
-use Rattle.std.proofs.lemmas.Bool.{cases_lt}
 use lib.Signed.{lt_z, shr_z}
-use Rattle.std.proofs.lemmas.Int.{ints, by_lt_z, to_z-of_z}
+use Rattle.std.proofs.lemmas.Int.{ints, by_lt_z}
 use Rattle.search.specs.declared.found.Found.{Found}
-use Rattle.search.specs.declared.hunt.Span.{Span}
 use Rattle.search.specs.Hunt.{hunt, middle, Crosses, Hits}
 
 pub lt_true : (a b : ℤ) → a <ℤ b → lt_z a b ≡ true
@@ -99,113 +97,9 @@ module _ (p : ℤ → ℤ) (total : ℤ) where
         (λ m2. let z : p (middle lo hi) ≡ total = omega (arith, ints) in rw (hunt_same n lo hi k s z) (inl z))))
         (λ s. let e = mid_end lo hi s near in rw (hunt_end (suc n) lo hi k s, e) (inr (ends lo hi l h s near)))
 
-    -- a turn's start: 60 - tries comparisons are left, and they find what 60 find from the start
-    pub record Hunting (lo hi base : ℤ) (tries : ℕ) : Type 0 where
-      pub mid : base ≡ middle lo hi
-      pub low : bottom ≤ℤ lo
-      pub high : hi ≤ℤ top
-      pub near : lo ≤ℤ (hi +ℤ pos 1)
-      pub few : tries ≤ 60
-      pub width : (hi -ℤ lo +ℤ pos 1) <ℤ pos (2 ^ (61 - tries))
-      pub same : hunt p total (60 - tries) lo hi tries ≡ hunt p total 60 bottom top 0
-
-    pub started : neg_ℤ (pos (2 ^ 60)) <ℤ bottom → top <ℤ pos (2 ^ 60) → bottom ≤ℤ top → Hunting bottom top (middle bottom top) 0
-    started l h o = record { mid = refl; low = omega (arith, ints); high = omega (arith, ints); near = omega (arith, ints); few = omega arith; width = omega (arith, ints); same = refl }
-
-    -- the tries left, where the ends are still apart
-    pub left : (lo hi base : ℤ) (tries : ℕ) → Hunting lo hi base tries → lo <ℤ hi → tries < 60
-    left lo hi base tries h s =
-        ⊎_elim (λ (q : tries < 60). q)
-        (λ (q : 60 ≤ tries). let z : 61 - tries ≡ 1 = omega (arith, h.few) in let w : (hi -ℤ lo +ℤ pos 1) <ℤ pos (2 ^ 1) = subst (λ (x : ℕ). (hi -ℤ lo +ℤ pos 1) <ℤ pos (2 ^ x)) z h.width in absurd (omega (arith, ints)))
-        (cases_lt tries 60)
-
-    module _ (lo hi base : ℤ) (tries : ℕ) (h : Hunting lo hi base tries) (s : lo <ℤ hi) where
-      fuel : 60 - tries ≡ suc (60 - (tries + 1))
-      fuel = let q = left lo hi base tries h s in omega arith
-
-      power : 2 ^ (61 - tries) ≡ 2 * 2 ^ (61 - (tries + 1))
-      power = let q = left lo hi base tries h s in let e : 61 - tries ≡ suc (61 - (tries + 1)) = omega arith in rw e (pow-succ' 2 (61 - (tries + 1)))
-
-      again : hunt p total (suc (60 - (tries + 1))) lo hi tries ≡ hunt p total 60 bottom top 0
-      again = rw fuel at h.same
-
-      pub went_up : total <ℤ p base → Hunting (base +ℤ pos 1) hi (middle (base +ℤ pos 1) hi) (tries + 1)
-      went_up m =
-          let q = left lo hi base tries h s in
-          let a : lo ≤ℤ base = rw h.mid (mid_low lo hi s) in
-          let b : base <ℤ hi = rw h.mid (mid_high lo hi s) in
-          let v = half_is (lo +ℤ hi) in
-          record {
-            mid = refl;
-            low = omega (arith, ints, h.low);
-            high = h.high;
-            near = omega (arith, ints);
-            few = omega arith;
-            width = halved (2 ^ (61 - (tries + 1))) (2 ^ (61 - tries)) (hi -ℤ lo +ℤ pos 1) _ power (omega (arith, ints, v.0, v.1, h.mid)) h.width;
-            same = rw h.mid (sym (hunt_more (60 - (tries + 1)) lo hi tries s (rw h.mid at m)) ∙ again);
-          }
-
-      pub went_down : p base <ℤ total → Hunting lo (base -ℤ pos 1) (middle lo (base -ℤ pos 1)) (tries + 1)
-      went_down m =
-          let q = left lo hi base tries h s in
-          let a : lo ≤ℤ base = rw h.mid (mid_low lo hi s) in
-          let b : base <ℤ hi = rw h.mid (mid_high lo hi s) in
-          let v = half_is (lo +ℤ hi) in
-          record {
-            mid = refl;
-            low = h.low;
-            high = omega (arith, ints, h.high);
-            near = omega (arith, ints);
-            few = omega arith;
-            width = halved (2 ^ (61 - (tries + 1))) (2 ^ (61 - tries)) (hi -ℤ lo +ℤ pos 1) _ power (omega (arith, ints, v.0, v.1, h.mid)) h.width;
-            same = rw h.mid (sym (hunt_less (60 - (tries + 1)) lo hi tries s (rw h.mid at m)) ∙ again);
-          }
-
-      pub met : p base ≡ total → ◌≡◌ {A = Found} (record { base = base; tries = tries + 1 }) (hunt p total 60 bottom top 0)
-      met m = rw h.mid (sym (hunt_same (60 - (tries + 1)) lo hi tries s (rw h.mid at m)) ∙ again)
-
-    pub ended : (lo hi base : ℤ) (tries : ℕ) → Hunting lo hi base tries → hi ≤ℤ lo → ◌≡◌ {A = Found} (record { base = base; tries = tries }) (hunt p total 60 bottom top 0)
-    ended lo hi base tries h s = rw h.mid (sym (hunt_end (60 - tries) lo hi tries s) ∙ h.same)
-
     -- what the contract says, of the definition
     pub found_hits : neg_ℤ (pos (2 ^ 60)) <ℤ bottom → top <ℤ pos (2 ^ 60) → bottom ≤ℤ top → (r : Found) → r ≡ hunt p total 60 bottom top 0 → Hits p total bottom top r.base
     found_hits l h o r e = rw e (hunt_hits 60 bottom top 0 (inl (omega (arith, ints))) (inl (omega (arith, ints))) (omega (arith, ints)) (omega (arith, ints)))
 
     pub found_few : (r : Found) → r ≡ hunt p total 60 bottom top 0 → r.tries ≤ 60
     found_few r e = rw e (omega (arith, hunt_tries 60 bottom top 0))
-
-pub at_middle : {p : ℤ → ℤ} {total bottom top lo hi base : ℤ} {tries : ℕ} → Hunting p total bottom top lo hi base tries → lo <ℤ hi → (bottom ≤ℤ lo) × (hi ≤ℤ top) × (lo ≤ℤ base) × (base <ℤ hi) × (tries < 60)
-at_middle {p} {total} {bottom} {top} {lo} {hi} {base} {tries} h s = (h.low, h.high, rw h.mid (mid_low lo hi s), rw h.mid (mid_high lo hi s), left p total bottom top lo hi base tries h s)
-
-pub up_again : {p : ℤ → ℤ} {total bottom top : ℤ} (s r : Span) → Hunting p total bottom top s.lo s.hi s.base s.tries → s.lo <ℤ s.hi → total <ℤ p s.base
-    → r ≡ record { lo = s.base +ℤ pos 1; hi = s.hi; base = middle (s.base +ℤ pos 1) s.hi; tries = s.tries + 1 } → Hunting p total bottom top r.lo r.hi r.base r.tries
-up_again {p} {total} {bottom} {top} s r h o m e = rw e (went_up p total bottom top s.lo s.hi s.base s.tries h o m)
-
-pub down_again : {p : ℤ → ℤ} {total bottom top : ℤ} (s r : Span) → Hunting p total bottom top s.lo s.hi s.base s.tries → s.lo <ℤ s.hi → p s.base <ℤ total
-    → r ≡ record { lo = s.lo; hi = s.base -ℤ pos 1; base = middle s.lo (s.base -ℤ pos 1); tries = s.tries + 1 } → Hunting p total bottom top r.lo r.hi r.base r.tries
-down_again {p} {total} {bottom} {top} s r h o m e = rw e (went_down p total bottom top s.lo s.hi s.base s.tries h o m)
-
-pub at_args : {p : ℤ → ℤ} {lo hi base : ℤ} {tries : ℕ} (total bottom top : ℤ) → SFits w64 total → SFits w64 bottom → SFits w64 top
-    → Hunting p (to_z w64 (of_z w64 total)) (to_z w64 (of_z w64 bottom)) (to_z w64 (of_z w64 top)) lo hi base tries → Hunting p total bottom top lo hi base tries
-at_args total bottom top f g h k = let a = to_z-of_z w64 total f in let b = to_z-of_z w64 bottom g in let d = to_z-of_z w64 top h in rw (a, b, d) at k
-
-pub told_at : (f : ℤ → ℤ) (r x : ℤ) → SFits w64 x → r ≡ f (to_z w64 (of_z w64 x)) → r ≡ f x
-told_at f r x s e = rw (to_z-of_z w64 x s) at e
-
-module _ (p : ℤ → ℤ) (total bottom top : ℤ) where
-  -- the contract, from the exact result
-  pub record Told (r : Found) : Type 0 where
-    pub exact : r ≡ hunt p total 60 bottom top 0
-    pub few : r.tries ≤ 60
-    pub hits : Hits p total bottom top r.base
-
-  pub told_from : neg_ℤ (pos (2 ^ 60)) <ℤ bottom → top <ℤ pos (2 ^ 60) → bottom ≤ℤ top → (b : ℤ) (k : ℕ) → SFits w64 b → ◌≡◌ {A = Found} (record { base = b; tries = k }) (hunt p total 60 bottom top 0) → Told (record { base = to_z w64 (of_z w64 b); tries = k })
-  told_from l h o b k f e = let z = to_z-of_z w64 b f in rw z (record { exact = e; few = found_few p total bottom top (record { base = b; tries = k }) e; hits = found_hits p total bottom top l h o (record { base = b; tries = k }) e })
-
--- the contract at the ends that were passed on as bits
-pub at_ends : (p : ℤ → ℤ) (total bottom top : ℤ) (r : Found) → SFits w64 total → SFits w64 bottom → SFits w64 top
-    → r ≡ hunt p (to_z w64 (of_z w64 total)) 60 (to_z w64 (of_z w64 bottom)) (to_z w64 (of_z w64 top)) 0 → r.tries ≤ 60
-    → Hits p (to_z w64 (of_z w64 total)) (to_z w64 (of_z w64 bottom)) (to_z w64 (of_z w64 top)) r.base → Told p total bottom top r
-at_ends p total bottom top r f g h e few hits =
-    let a = to_z-of_z w64 total f in let b = to_z-of_z w64 bottom g in let d = to_z-of_z w64 top h in
-    record { exact = rw (a, b, d) at e; few = few; hits = rw (a, b, d) at hits }

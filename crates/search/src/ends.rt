@@ -2,8 +2,7 @@
 ghost use Rattle.std.specs.Prelude.{◌≡◌, ℕ, ◌^◌, min, max, pos, neg_ℤ, ◌≤ℤ◌, ◌<ℤ◌};
 ghost use Rattle.flat.specs.Flat.{ac_log};
 
-use flat::ac_log;
-use flat_laws::logs_stand;
+use flat::{ac_log, logs_stand};
 use tables::Depth;
 
 // The bottom and the top of a search, in order and within 8 doublings of 0.

@@ -6,6 +6,7 @@ mod ends;
 mod forecast;
 mod found;
 mod hunt;
+mod span;
 
 pub use ends::Ends;
 pub use forecast::predict_base;

@@ -2,6 +2,7 @@
 use Rattle.std.proofs.Common.{◌≡◌, ℕ, ◌*◌, ◌^◌, ◌<◌, ◌≤◌, Bool, true, false, leb, Some, None, Ok, Err, Option, Result, sym, refl, ap, ◌∙◌, arith}
 use Rattle.tables.specs.declared.depth.Depth.{Depth}
 use Rattle.quantize.specs.declared.sampling.ChromaSampling.{ChromaSampling}
+use Rattle.std.specs.Option.{ok_or}
 use Rattle.tables.specs.Depths.{depth_of}
 use Rattle.quantize.specs.Planes.{sampling_of}
 use Rattle.setup.specs.declared.refusal.Refusal.{Refusal}
@@ -10,7 +11,7 @@ use Rattle.setup.specs.declared.settings.Settings.{Settings}
 use Rattle.setup.specs.declared.settings.Accepted.{Accepted}
 use Rattle.setup.specs.Tests.{in_range, lawful_highest, sized, rated, timed}
 use Rattle.setup.specs.Opening.{Lawful, credit_of, units_of, limit_of, accepted_of}
-use Rattle.setup.specs.Questions.{answered, found, and_then, typed, limited, accepted}
+use Rattle.setup.specs.Questions.{answered, and_then, typed, limited, accepted}
 
 -- 0 for an answer, 1 for a refusal
 abbrev tag : {X : Type 0} → Result X Refusal → ℕ
@@ -27,7 +28,7 @@ yes true e f y h = (refl, h)
 yes false e f y h = absurd (no_refusal y e h)
 
 -- a question before an answer was answered by a value
-some : {X Y : Type 0} (o : Option X) (e : Refusal) (f : X → Result Y Refusal) (y : Y) (P : Type 0) → ((x : X) → Ok y ≡ f x → P) → Ok y ≡ and_then (found o e) f → P
+some : {X Y : Type 0} (o : Option X) (e : Refusal) (f : X → Result Y Refusal) (y : Y) (P : Type 0) → ((x : X) → Ok y ≡ f x → P) → Ok y ≡ and_then (ok_or o e) f → P
 some (Some x) e f y P k h = k x h
 some None e f y P k h = absurd (no_refusal y e h)
 

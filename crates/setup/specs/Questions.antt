@@ -1,9 +1,11 @@
 -- The eight questions put to settings, in order: a call stops at its first no.
-use Rattle.std.specs.Prelude.{ℕ, ◌^◌, Bool, true, false, Some, None, Ok, Err, Option, Result, nat_le}
+use Rattle.std.specs.Prelude.{ℕ, ◌^◌, Bool, true, false, Ok, Err, Result, nat_le}
+use Rattle.std.specs.Option.{ok_or}
 use Rattle.tables.specs.declared.depth.Depth.{Depth}
 use Rattle.quantize.specs.declared.sampling.ChromaSampling.{ChromaSampling}
 use Rattle.tables.specs.Depths.{depth_of}
 use Rattle.quantize.specs.Planes.{sampling_of}
+pub use Rattle.quantize.specs.Call.{and_then}
 use Rattle.setup.specs.declared.refusal.Refusal.{Refusal}
 use Rattle.setup.specs.declared.refusal.Refusal.TheVariants.{Size, Rate, Bitrate, Depth as NoDepth, Sampling, Indexes, Timing, Limit}
 use Rattle.setup.specs.declared.settings.Settings.{Settings}
@@ -27,29 +29,14 @@ abbrev pub answered : Bool → Refusal → Result (Unit {0}) Refusal
 answered true e = Ok tt
 answered false e = Err e
 
--- a question that is answered by a value or not at all
-abbrev pub found : {X : Type 0} → Option X → Refusal → Result X Refusal
-found (Some x) e = Ok x
-found None e = Err e
-
--- go on with what was answered; a call stops at its first no
-abbrev pub and_then : {X Y : Type 0} → Result X Refusal → (X → Result Y Refusal) → Result Y Refusal
-and_then (Ok x) f = f x
-and_then (Err e) f = Err e
-
--- what holds of an accepted answer
-abbrev pub OfAnswer : {X : Type 0} → Result X Refusal → (X → Type 0) → Type 0
-OfAnswer (Ok x) P = P x
-OfAnswer (Err e) P = Unit {0}
-
 -- questions 1 to 7, and the depth and the sampling that they find
 abbrev pub typed : Settings → Result (Depth × ChromaSampling) Refusal
 typed s =
     and_then (answered (sized s) Size) (λ _.
     and_then (answered (rated s) Rate) (λ _.
     and_then (answered (in_range 1 2147483647 s.bitrate) Bitrate) (λ _.
-    and_then (found (depth_of s.depth) NoDepth) (λ d.
-    and_then (found (sampling_of s.sampling) Sampling) (λ m.
+    and_then (ok_or (depth_of s.depth) NoDepth) (λ d.
+    and_then (ok_or (sampling_of s.sampling) Sampling) (λ m.
     and_then (answered (lawful_highest s.lowest s.highest) Indexes) (λ _.
     and_then (answered (timed s) Timing) (λ _. Ok (d, m))))))))
 

@@ -2,8 +2,10 @@
 // accepted settings give. It rests on `logexp`, `tables` and `quantize`.
 #![tactic(auto)]
 
+mod lawful;
 mod refusal;
 mod settings;
 
+pub use lawful::LawfulSettings;
 pub use refusal::Refusal;
 pub use settings::{Accepted, Settings};

@@ -1,6 +1,10 @@
 // Why settings are refused.
 ghost use Rattle.std.specs.Prelude.{◌≡◌};
 ghost use Rattle.setup.specs.Questions.{number};
+ghost use Rattle.setup.specs.declared.refusal.Refusal.TheVariants.{Depth, Sampling};
+
+use quantize::NoSuchSampling;
+use tables::NoSuchDepth;
 
 // The question that was answered by no.
 #[derive(Clone, Copy, PartialEq, Eq, Debug)]
@@ -23,12 +27,30 @@ pub enum Refusal {
     Limit,
 }
 
-impl Refusal {
-    // The number of the question: 1 to 8, in the order in which they are asked.
-    pub fn number(self) -> u8
-        ensures { result ≡ number self }
-    {
-        match self {
+// A depth that AV1 lacks answers question 4 by no.
+impl From<NoSuchDepth> for Refusal {
+    ghost from_gives = { λ _ refusal. refusal ≡ Depth };
+
+    fn from(_error: NoSuchDepth) -> Self {
+        Self::Depth
+    }
+}
+
+// A code that stands for no sampling answers question 5 by no.
+impl From<NoSuchSampling> for Refusal {
+    ghost from_gives = { λ _ refusal. refusal ≡ Sampling };
+
+    fn from(_error: NoSuchSampling) -> Self {
+        Self::Sampling
+    }
+}
+
+// The number of the question: 1 to 8, in the order in which they are asked.
+impl From<Refusal> for u8 {
+    ghost from_gives = { λ refusal n. n ≡ number refusal };
+
+    fn from(refusal: Refusal) -> Self {
+        match refusal {
             Refusal::Size => 1,
             Refusal::Rate => 2,
             Refusal::Bitrate => 3,

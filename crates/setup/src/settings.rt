@@ -1,10 +1,11 @@
 // What a controller and its curve are opened with, the eight questions put to it in order, and the figures that
 // accepted settings give. Depth and sampling are those of `quantize`.
-ghost use Rattle.std.specs.Prelude.{◌≡◌, ℕ, ◌+◌, ◌-◌, ◌*◌, ◌/◌, ◌^◌, ◌<◌, ◌≤◌, min, max, Bool, true};
-ghost use Rattle.setup.specs.Tests.{in_range, lawful_delay, lawful_highest, sized, rated, timed};
-ghost use Rattle.setup.specs.Questions.{answered, typed, accepted, OfAnswer};
-ghost use Rattle.setup.specs.Opening.{credit_of, units_of, pixels_of, accepted_of, Lawful, Sound};
+ghost use Rattle.std.specs.Prelude.{◌≡◌, ◌*◌, ◌^◌, ◌<◌, ◌≤◌, true, IfOk};
+ghost use Rattle.setup.specs.Tests.{lawful_delay, lawful_highest, sized, rated, timed};
+ghost use Rattle.setup.specs.Questions.{answered, typed, accepted};
+ghost use Rattle.setup.specs.Opening.{accepted_of, Lawful, Sound};
 
+use crate::lawful::LawfulSettings;
 use crate::refusal::Refusal;
 use quantize::ChromaSampling;
 use tables::Depth;
@@ -22,27 +23,17 @@ const BITRATE_MOST: u32 = 2_147_483_647;
 const INTERVAL_MOST: u32 = 10_000;
 
 // The shortest and the longest delay of the reservoir, in temporal units.
-const DELAY_LEAST: u32 = 12;
+pub(crate) const DELAY_LEAST: u32 = 12;
 
 const DELAY_MOST: u32 = 1_024;
-
-// The longest delay that is taken where none is set.
-const DELAY_USUAL_MOST: u32 = 240;
-
-// The least and the greatest number of bits of a temporal unit, before its delimiter is taken off.
-const UNIT_LEAST: u64 = 40;
-
-const UNIT_MOST: u64 = 1 << 46;
-
-// The bits of a temporal delimiter, which no frame's bits count in.
-const DELIMITER: u64 = 16;
 
 // The greatest limit of the reservoir, in bits.
 const LIMIT_MOST: u64 = 1 << 35;
 
 // What is asked for, in raw numbers: the frame's size, the frame rate, the bitrate in bits per second, the bit
 // depth, the code of the sampling, the lowest and the highest quantizer index, the frames from one key frame to
-// the next, the reservoir's delay in temporal units, and whether frames may be dropped.
+// the next, the reservoir's delay in temporal units, and whether frames may be dropped. They are numbers and no enums,
+// since the questions are put to bad ones too.
 #[derive(Clone, Copy)]
 pub struct Settings {
     pub width: u32,
@@ -74,31 +65,18 @@ pub struct Accepted {
     pub dropping: bool,
 }
 
-// Whether n is within low and high.
-fn within(low: u32, high: u32, n: u32) -> bool
-    ensures { result ≡ in_range low high n }
-{
-    low <= n && n <= high
-}
-
 // Whether a delay is absent or lawful.
 fn lawful_delay(delay: Option<u32>) -> bool
     ensures { result ≡ lawful_delay delay }
 {
-    match delay {
-        None => true,
-        Some(d) => within(DELAY_LEAST, DELAY_MOST, d),
-    }
+    delay.is_none_or(|d| (DELAY_LEAST..=DELAY_MOST).contains(&d))
 }
 
 // Whether a highest index is absent or not under the lowest.
 fn lawful_highest(lowest: u8, highest: Option<u8>) -> bool
     ensures { result ≡ lawful_highest lowest highest }
 {
-    match highest {
-        None => true,
-        Some(h) => lowest <= h,
-    }
+    highest.is_none_or(|h| lowest <= h)
 }
 
 // Goes on where a question is answered by yes.
@@ -108,39 +86,26 @@ fn ask(yes: bool, no: Refusal) -> Result<(), Refusal>
     if yes { Ok(()) } else { Err(no) }
 }
 
-// The bits of a temporal unit, within its bounds, less its delimiter.
-fn credit_of(bitrate: u32, denominator: u32, numerator: u32) -> u64
-    requires { 0 < numerator }
-    ensures value { result ≡ max 40 (min (bitrate * denominator / numerator) (2 ^ 46)) - 16 }
-    ensures low { 24 ≤ result }
-    ensures high { result < 2 ^ 46 }
-{
-    (bitrate as u64 * denominator as u64 / numerator as u64)
-        .min(UNIT_MOST)
-        .max(UNIT_LEAST)
-        - DELIMITER
-}
-
 impl Settings {
     // Question 1.
     fn sized(&self) -> bool
         ensures { result ≡ sized self.now }
     {
-        within(1, SIZE_MOST, self.width) && within(1, SIZE_MOST, self.height)
+        (1..=SIZE_MOST).contains(&self.width) && (1..=SIZE_MOST).contains(&self.height)
     }
 
     // Question 2.
     fn rated(&self) -> bool
         ensures { result ≡ rated self.now }
     {
-        within(1, RATE_MOST, self.numerator) && within(1, RATE_MOST, self.denominator)
+        (1..=RATE_MOST).contains(&self.numerator) && (1..=RATE_MOST).contains(&self.denominator)
     }
 
     // Question 7.
     fn timed(&self) -> bool
         ensures { result ≡ timed self.now }
     {
-        within(1, INTERVAL_MOST, self.interval) && lawful_delay(self.delay)
+        (1..=INTERVAL_MOST).contains(&self.interval) && lawful_delay(self.delay)
     }
 
     // Questions 1 to 7, and the depth and the sampling that they find.
@@ -149,46 +114,20 @@ impl Settings {
     {
         ask(self.sized(), Refusal::Size)?;
         ask(self.rated(), Refusal::Rate)?;
-        ask(within(1, BITRATE_MOST, self.bitrate), Refusal::Bitrate)?;
-        let depth = Depth::from_bits(self.depth).ok_or(Refusal::Depth)?;
-        let sampling = ChromaSampling::from_code(self.sampling).ok_or(Refusal::Sampling)?;
+        ask((1..=BITRATE_MOST).contains(&self.bitrate), Refusal::Bitrate)?;
+        let depth = Depth::try_from(self.depth)?;
+        let sampling = ChromaSampling::try_from(self.sampling)?;
         ask(lawful_highest(self.lowest, self.highest), Refusal::Indexes)?;
         ask(self.timed(), Refusal::Timing)?;
         Ok((depth, sampling))
     }
 
-    // The pixels of a frame.
-    pub fn pixels(&self) -> u64
+    // The settings, as those from which figures follow.
+    pub fn lawful(&self) -> LawfulSettings
         requires { Lawful self.now }
-        ensures value { result ≡ pixels_of self.now }
-        ensures high { result ≤ 2 ^ 32 }
+        ensures { result.settings ≡ self.now }
     {
-        self.width as u64 * self.height as u64
-    }
-
-    // The bits that each shown frame brings.
-    pub fn credit(&self) -> u64
-        requires { Lawful self.now }
-        ensures value { result ≡ credit_of self.now }
-        ensures low { 24 ≤ result }
-        ensures high { result < 2 ^ 46 }
-    {
-        credit_of(self.bitrate, self.denominator, self.numerator)
-    }
-
-    // The reservoir's delay, in temporal units.
-    pub fn units(&self) -> u32
-        requires { Lawful self.now }
-        ensures value { result ≡ units_of self.now }
-        ensures low { 12 ≤ result }
-        ensures high { result ≤ 1024 }
-    {
-        match self.delay {
-            None => (self.interval * 3 / 2)
-                .min(DELAY_USUAL_MOST)
-                .max(DELAY_LEAST),
-            Some(d) => d,
-        }
+        LawfulSettings { settings: *self }
     }
 
     // The figures that settings give once they are accepted.
@@ -214,13 +153,14 @@ impl Settings {
     // The figures of the settings, or the first of the eight questions that is answered by no.
     pub fn accept(&self) -> Result<Accepted, Refusal>
         ensures value { result ≡ accepted self.now }
-        ensures sound { OfAnswer result Sound }
-        ensures lawful { OfAnswer result (λ _. Lawful self.now) }
-        ensures ordered { OfAnswer result (λ a. lawful_highest a.lowest a.highest ≡ true) }
+        ensures sound { IfOk result Sound }
+        ensures lawful { IfOk result (λ _. Lawful self.now) }
+        ensures ordered { IfOk result (λ a. lawful_highest a.lowest a.highest ≡ true) }
     {
         let (depth, sampling) = self.typed()?;
-        let credit = self.credit();
-        let delay = self.units();
+        let lawful = self.lawful();
+        let credit = lawful.credit();
+        let delay = lawful.units();
         if credit * delay as u64 > LIMIT_MOST {
             return Err(Refusal::Limit);
         }

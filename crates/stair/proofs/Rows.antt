@@ -1,8 +1,9 @@
 -- A row that never rises, and what it predicts.
-use Rattle.std.proofs.Common.{◌≡◌, ℕ, zero, suc, ◌+◌, ◌^◌, ◌<◌, ◌≤◌, Bool, true, false, cond, ◌&&◌, ltb, leb, List, [], get_or, ℤ, pos, negsuc, ◌+ℤ◌, ◌≤ℤ◌, sym, refl, ap, subst, inl, inr, arith}
+use Rattle.std.proofs.Common.{◌≡◌, ℕ, zero, suc, ◌^◌, ◌<◌, ◌≤◌, Bool, true, false, cond, ◌&&◌, ltb, leb, List, [], length, get_or, ℤ, pos, negsuc, ◌+ℤ◌, ◌≤ℤ◌, sym, refl, ap, subst, inl, inr, arith}
 use lib.Signed.{shr_z}
 use Rattle.std.proofs.lemmas.Int.{ints}
 use Rattle.std.proofs.lemmas.Bool.{cases_lt}
+use Rattle.std.specs.List.{IsAllAdjacentAnswer}
 use Rattle.stair.specs.Stairs.{kept, step, descends, lawful_rows}
 use Rattle.stair.specs.Laws.{NeverMore}
 
@@ -13,10 +14,11 @@ down_suc row k h g =
     let t : leb (get_or row (suc k) 0) (get_or row k 0) ≡ true = grind arith in
     rw (t, g) refl
 
-pub down_more : (row : List ℕ) (k : ℕ) → get_or row (k + 1) 0 ≤ get_or row k 0 → descends row k ≡ true → descends row (k + 1) ≡ true
-down_more row k h g =
-    let e : suc k ≡ k + 1 = omega arith in
-    subst (λ (n : ℕ). descends row n ≡ true) e (down_suc row k (subst (λ (n : ℕ). get_or row n 0 ≤ get_or row k 0) (sym e) h) g)
+-- a row of which none of the first n steps rises
+all_down : (row : List ℕ) (n : ℕ) → ((k : ℕ) → k < n → get_or row (suc k) 0 ≤ get_or row k 0) → descends row n ≡ true
+unfolding descends
+all_down row zero h = refl
+all_down row (suc n) h = down_suc row n (h n (omega arith)) (all_down row n (λ k l. h k (omega arith)))
 
 and_true : (a b : Bool) → (a && b) ≡ true → (a ≡ true) × (b ≡ true)
 and_true true b h = (refl, h)
@@ -39,16 +41,19 @@ no_rise row (suc n) h k l =
     ]
 
 -- a row with a rising step is not one that never rises
-pub rise_at : (row : List ℕ) (k : ℕ) → k < 63 → get_or row k 0 < get_or row (k + 1) 0 → false ≡ descends row 63
+rise_at : (row : List ℕ) (k : ℕ) → k < 63 → get_or row k 0 < get_or row (suc k) 0 → false ≡ descends row 63
 rise_at row k l h = by (descends row 63) refl
   where
     by : (b : Bool) → descends row 63 ≡ b → false ≡ b
     by false e = refl
     by true e =
-        let s : k + 1 ≡ suc k = omega arith in
         let g = no_rise row 63 e k l in
-        let u : get_or row k 0 < get_or row (suc k) 0 = subst (λ (j : ℕ). get_or row k 0 < get_or row j 0) s h in
         absurd (omega arith)
+
+-- a row of 64 counts is sorted downwards just where none of its steps rises
+pub sorted_down : (row : List ℕ) (r : Bool) → length row ≡ 64 → IsAllAdjacentAnswer (λ x y b. b ≡ leb y x) row r → r ≡ descends row 63
+sorted_down row true e h = sym (all_down row 63 (λ k l. grind (arith, h k 0 (omega arith))))
+sorted_down row false e (k, l, h) = rise_at row k (omega arith) (grind (arith, h 0))
 
 -- along such a row nothing rises
 falls : (row : List ℕ) (n : ℕ) → descends row n ≡ true → (i j : ℕ) → i ≤ j → j ≤ n → get_or row j 0 ≤ get_or row i 0

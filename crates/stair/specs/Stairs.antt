@@ -1,6 +1,7 @@
 -- The stair: its steps, its counts and its making.
 use Rattle.std.specs.Prelude.{ℕ, zero, suc, ◌-◌, ◌^◌, min, Bool, true, cond, ◌&&◌, List, [], ℤ, pos, negsuc, ◌+ℤ◌, Ok, Err, Result, nat_le, nat_lt, slice_index, slice_index_or}
 use Rattle.std.specs.Int.Signed.{shr_z}
+use Rattle.model.specs.Meaning.{Meaning}
 use Rattle.stair.specs.declared.refusal.Refusal.{Refusal}
 use Rattle.stair.specs.declared.refusal.Refusal.TheVariants.{Rises}
 use Rattle.stair.specs.declared.stair.Stair.{Stair}
@@ -25,6 +26,10 @@ count32 n = min n (2 ^ 32 - 1)
 -- the count of a subtype's row on the step, and 0 above subtype 3
 abbrev pub stair_count : List (List ℕ) → ℕ → ℤ → ℕ
 stair_count rows k q = cond (nat_lt k 4) (count32 (slice_index (slice_index_or rows k []) (step q))) 0
+
+-- what the stair means as a bit model: it trims nothing and learns nothing
+abbrev pub stair_meaning : Meaning Stair
+stair_meaning = record { count = λ m k q. stair_count m.rows k q; trimmed = λ m k q r. q; next = λ m l. m }
 
 -- does none of the first k steps of a row rise?
 unfoldable pub descends : List ℕ → ℕ → Bool

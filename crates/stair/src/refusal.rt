@@ -9,12 +9,12 @@ pub enum Refusal {
     Rises,
 }
 
-impl Refusal {
-    // The number of the question: 34.
-    pub fn number(self) -> u8
-        ensures { result ≡ number self }
-    {
-        match self {
+// The number of the question: 34.
+impl From<Refusal> for u8 {
+    ghost from_gives = { λ refusal n. n ≡ number refusal };
+
+    fn from(refusal: Refusal) -> u8 {
+        match refusal {
             Refusal::Rises => 34,
         }
     }

@@ -1,6 +1,8 @@
--- The three bit depths, and which table serves which.
+-- The three bit depths, and which table serves which coefficient at each.
 use Rattle.std.specs.Prelude.{ℕ, ◌*◌, ◌^◌, cond, List, [], ◌∷◌, ℤ, pos, Some, None, Option, ◌==◌}
 use Rattle.std.specs.List.{AllByRecursion}
+use Rattle.tables.specs.declared.coefficient.Coefficient.{Coefficient}
+use Rattle.tables.specs.declared.coefficient.Coefficient.TheVariants.{Dc, Ac}
 use Rattle.tables.specs.declared.depth.Depth.{Depth}
 use Rattle.tables.specs.declared.depth.Depth.TheVariants.{Eight, Ten, Twelve}
 use Rattle.tables.specs.Tables.{dc8, dc10, dc12, ac8, ac10, ac12}
@@ -31,6 +33,11 @@ unfoldable pub ac_table : Depth → List ℕ
 ac_table Eight = ac8
 ac_table Ten = ac10
 ac_table Twelve = ac12
+
+-- the table of a coefficient at a depth
+abbrev pub table : Coefficient → Depth → List ℕ
+table Dc d = dc_table d
+table Ac d = ac_table d
 
 -- the six tables
 unfoldable pub tables : List (List ℕ)

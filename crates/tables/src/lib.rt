@@ -2,10 +2,12 @@
 // library alone.
 #![tactic(auto)]
 
+mod coefficient;
 mod depth;
 mod laws;
 mod select;
 mod tables;
 
-pub use depth::Depth;
+pub use coefficient::Coefficient;
+pub use depth::{Depth, NoSuchDepth};
 pub use laws::{choice_stands, tables_stand};

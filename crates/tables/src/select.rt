@@ -1,82 +1,52 @@
 // The entries of the six tables, and the index of a table that stands for a quantizer.
 ghost use Rattle.std.specs.Prelude.{◌≡◌, ℕ, ◌-◌, ◌<◌, ◌≤◌, slice_index};
 ghost use Rattle.tables.specs.Choice.{Table, Chosen, index};
-ghost use Rattle.tables.specs.Depths.{dc_table, ac_table};
+ghost use Rattle.tables.specs.Depths.{table};
 
+use crate::coefficient::Coefficient;
 use crate::depth::Depth;
 use crate::tables::{AC_8, AC_10, AC_12, DC_8, DC_10, DC_12};
 
 impl Depth {
-    fn dc_table(self) -> &'static [u16; 256]
-        ensures value { result.now ≡ dc_table self }
+    // The table of a coefficient at this depth.
+    fn table(self, coefficient: Coefficient) -> &'static [u16; 256]
+        ensures value { result.now ≡ table coefficient self }
         ensures rule { Table result.now }
     {
-        match self {
-            Depth::Eight => &DC_8,
-            Depth::Ten => &DC_10,
-            Depth::Twelve => &DC_12,
+        match (coefficient, self) {
+            (Coefficient::Dc, Depth::Eight) => &DC_8,
+            (Coefficient::Dc, Depth::Ten) => &DC_10,
+            (Coefficient::Dc, Depth::Twelve) => &DC_12,
+            (Coefficient::Ac, Depth::Eight) => &AC_8,
+            (Coefficient::Ac, Depth::Ten) => &AC_10,
+            (Coefficient::Ac, Depth::Twelve) => &AC_12,
         }
     }
 
-    fn ac_table(self) -> &'static [u16; 256]
-        ensures value { result.now ≡ ac_table self }
-        ensures rule { Table result.now }
+    // The entry of an index in the table of a coefficient.
+    pub fn q(self, coefficient: Coefficient, qindex: u8) -> u16
+        ensures { result ≡ slice_index (table coefficient self) qindex }
     {
-        match self {
-            Depth::Eight => &AC_8,
-            Depth::Ten => &AC_10,
-            Depth::Twelve => &AC_12,
-        }
+        self.table(coefficient)[qindex as usize]
     }
 
-    // The DC entry of an index.
-    pub fn dc_q(self, qindex: u8) -> u16
-        ensures { result ≡ slice_index (dc_table self) qindex }
+    // The index of the table of a coefficient that stands for a quantizer.
+    pub fn select_qi(self, coefficient: Coefficient, quantizer: i64) -> u8
+        ensures value { result ≡ index (table coefficient self) quantizer }
+        ensures chosen { Chosen (table coefficient self) quantizer result }
     {
-        self.dc_table()[qindex as usize]
-    }
-
-    // The AC entry of an index.
-    pub fn ac_q(self, qindex: u8) -> u16
-        ensures { result ≡ slice_index (ac_table self) qindex }
-    {
-        self.ac_table()[qindex as usize]
-    }
-
-    // The index of the DC table that stands for a quantizer.
-    pub fn select_dc_qi(self, quantizer: i64) -> u8
-        ensures value { result ≡ index (dc_table self) quantizer }
-        ensures chosen { Chosen (dc_table self) quantizer result }
-    {
-        select_qi(quantizer, self.dc_table())
-    }
-
-    // The index of the AC table that stands for a quantizer.
-    pub fn select_ac_qi(self, quantizer: i64) -> u8
-        ensures value { result ≡ index (ac_table self) quantizer }
-        ensures chosen { Chosen (ac_table self) quantizer result }
-    {
-        select_qi(quantizer, self.ac_table())
+        select_qi(quantizer, self.table(coefficient))
     }
 }
 
 // The first index whose entry is not below q, in a table that never falls.
 fn lower_bound(table: &[u16; 256], q: u16) -> usize
+    requires { Table table.now }
     ensures within { result ≤ 256 }
     ensures before { 0 < result → slice_index table.now (result - 1) < q }
     ensures after { result < 256 → q ≤ slice_index table.now result }
 {
-    let mut low = 0;
-    let mut high = 256;
-    while low < high {
-        let mid = low + (high - low) / 2;
-        if table[mid] < q {
-            low = mid + 1;
-        } else {
-            high = mid;
-        }
-    }
-    low
+    table.partition_point(|&entry| entry < q)
 }
 
 // The index of a table that stands for a quantizer: 0 below the first entry, 255 from the last on, the first of

@@ -1,16 +1,18 @@
--- How a walk over the bytes of a text finds its lines, and over those of a line its words.
-use Rattle.std.proofs.Common.{◌≡◌, ℕ, zero, suc, ◌+◌, ◌-◌, ◌<◌, ◌≤◌, Bool, true, false, eqb, List, [], ◌∷◌, ◌++◌, length, get_or, take, drop, Some, None, IsUtf8, Option, sym, refl, ap, ◌∙◌, subst, append_assoc, arith, Bor, rules, MatchOption}
-use native.Mathlib.Numerals.{unary_clauses}
-use Rattle.std.specs.Str.{IsValidUpTo, IsCharBoundary}
+-- How the library's ways to cut a text give its lines, and those to cut a line its words.
+use Rattle.std.proofs.Common.{◌≡◌, ℕ, suc, ◌+◌, ◌-◌, ◌<◌, ◌≤◌, Bool, true, false, eqb, List, [], ◌∷◌, ◌++◌, map, length, get_or, take, Some, None, Ok, Err, Vec, Result, vec_items, IfOk, Option, sym, refl, ap, ◌∙◌, subst, append_assoc, append-nil, arith, Bor, rules, MatchOption}
+use Rattle.std.specs.Str.{IsValidUpTo, IsCharBoundary, NoCharPasses}
+use Rattle.std.specs.Str.Iter.{split_ascii_whitespace_steps, split_ascii_whitespace_text, IsAsciiSeparator}
+use Rattle.std.specs.Str.Pattern.{RFindsChar}
 use Rattle.std.specs.Char.{is_ascii_whitespace}
-use Rattle.std.proofs.lemmas.List.{length-drop, length-take, get_or-drop, get_or-take, take-take, take_more, drop_more, drop_all}
-use Rattle.std.proofs.lemmas.Str.{IsCharBoundary-start, IsCharBoundary-after_ascii, IsUtf8-nil, IsUtf8-take}
-use Rattle.std.proofs.lemmas.Bool.{both_ways, ltb-true, ltb-false}
-use Rattle.std.proofs.lemmas.Str.Pattern.{IsSplitOnceResult, split_parts}
+use Rattle.std.specs.List.{AllPass, slice_split, onto_first}
+use Rattle.std.proofs.lemmas.List.{length-take, get_or-take, take-take}
+use Rattle.std.proofs.lemmas.List.Splits.{length-slice_split}
+use Rattle.std.proofs.lemmas.Iterator.{YieldsList}
+use Rattle.std.proofs.lemmas.Iterator.Consumers.{YieldsList-from_shown}
+use Rattle.std.proofs.lemmas.Str.{NoCharPasses-byte}
+use Rattle.std.proofs.lemmas.Str.Pattern.{IsSplitOnceResult, split_parts, rfind_char}
 use Rattle.numerals.specs.Words.{texts}
-use Rattle.words.specs.declared.lines.Cut.{Cut}
-use Rattle.words.specs.declared.lines.Cut.TheVariants.{Lines, Words}
-use Rattle.words.specs.Lines.{before_comment, ended, ends, keeps, added, parted, LineStart}
+use Rattle.words.specs.Lines.{before_comment, ended, parted, lines_in, LineStart}
 
 -- a text with no `#` is its own front
 uncommented : (bs : List ℕ) → ((i : ℕ) → i < length bs → get_or bs i 0 ≡ 35 → ⊥) → bs ≡ before_comment bs
@@ -32,104 +34,138 @@ front_of bs (Some x) h =
     let p = split_parts 35 bs (Some x) h (omega arith) in
     commented x.0.now x.1.now p.1 ∙ ap before_comment (sym p.0)
 
-pub texts_push : (ws : List (Bor (List ℕ))) (w : Bor (List ℕ)) → texts (ws ++ (w ∷ [])) ≡ texts ws ++ (w.now ∷ [])
-texts_push [] w = refl
-texts_push (v ∷ ws) w = ap (λ (r : List (List ℕ)). v.now ∷ r) (texts_push ws w)
+pub texts_map : (ws : List (Bor (List ℕ))) → texts ws ≡ map (λ w. w.now) ws
+texts_map [] = refl
+texts_map (w ∷ ws) = ap (λ (r : List (List ℕ)). w.now ∷ r) (texts_map ws)
 
-pub ended_some : (w : List ℕ) (ws : List (List ℕ)) → 0 < length w → ended w ws ≡ w ∷ ws
+-- what a `Vec` of references holds that took pieces
+pub collected : {Z E : Type 0} (r : Result (Vec (Bor (List ℕ)) Z) E) (xs ys : List (List ℕ)) → xs ≡ ys
+    → IfOk r (λ v. map (λ w. w.now) (vec_items v) ≡ xs) → IfOk r (λ v. texts (vec_items v) ≡ ys)
+collected (Ok v) xs ys e h = texts_map (vec_items v) ∙ h ∙ e
+collected (Err x) xs ys e h = tt
+
+-- the pieces of w and then a text, from those of the text
+onto : List ℕ → List (List ℕ) → List (List ℕ)
+onto w [] = []
+onto w (p ∷ ps) = (w ++ p) ∷ ps
+
+onto_nil : (ps : List (List ℕ)) → onto [] ps ≡ ps
+unfolding onto
+onto_nil [] = refl
+onto_nil (p ∷ ps) = refl
+
+onto_more : (w : List ℕ) (c : ℕ) (ps : List (List ℕ)) → 0 < length ps → onto w (onto_first c ps) ≡ onto (w ++ (c ∷ [])) ps
+unfolding onto
+onto_more w c [] l = absurd (omega (arith, l))
+onto_more w c (p ∷ ps) l = ap (λ (v : List ℕ). v ∷ ps) (sym (append_assoc w (c ∷ []) p))
+
+by_test : (test : ℕ → Bool) (w : List ℕ) (c : ℕ) (cs : List ℕ) (b : Bool) → test c ≡ b
+    → ((v : List ℕ) → parted (λ line later. line ∷ later) test v cs ≡ onto v (slice_split test cs))
+    → parted (λ line later. line ∷ later) test w (c ∷ cs) ≡ onto w (slice_split test (c ∷ cs))
+unfolding onto
+by_test test w c cs true e h =
+    rw (e, append-nil w) (ap (λ (ps : List (List ℕ)). w ∷ ps) (h [] ∙ onto_nil (slice_split test cs)))
+by_test test w c cs false e h =
+    rw e (h (w ++ (c ∷ [])) ∙ sym (onto_more w c (slice_split test cs) (omega (arith, length-slice_split test cs))))
+
+parted_split : (test : ℕ → Bool) (w bs : List ℕ) → parted (λ line later. line ∷ later) test w bs ≡ onto w (slice_split test bs)
+unfolding onto
+parted_split test w [] = ap (λ (v : List ℕ). v ∷ []) (sym (append-nil w))
+parted_split test w (c ∷ cs) = by_test test w c cs (test c) refl (λ v. parted_split test v cs)
+
+-- the parts at line feeds are the lines
+pub lines_split : (text : List ℕ) → lines_in text ≡ slice_split (λ c. eqb c 10) text
+unfolding lines_in
+lines_split text = parted_split (λ c. eqb c 10) [] text ∙ onto_nil (slice_split (λ c. eqb c 10) text)
+
+white_ascii : (c : ℕ) → is_ascii_whitespace c ≡ true → c < 128
+white_ascii c e = grind (arith, e)
+
+-- no byte of a word is white space
+AllBlack : List ℕ → Type 0
+AllBlack x = (i : ℕ) → i < length x → is_ascii_whitespace (get_or x i 0) ≡ false
+
+black_or : (x : List ℕ) (i : ℕ) (b : Bool) → is_ascii_whitespace (get_or x i 0) ≡ b → NoCharPasses is_ascii_whitespace x → i < length x → b ≡ false
+black_or x i true e h l = sym e ∙ NoCharPasses-byte is_ascii_whitespace x i h l (white_ascii _ e)
+black_or x i false e h l = refl
+
+all_black : (x : List ℕ) → NoCharPasses is_ascii_whitespace x → AllBlack x
+unfolding AllBlack
+all_black x h i l = black_or x i (is_ascii_whitespace (get_or x i 0)) refl h l
+
+-- white space before a word is passed over
+over_gap : (gap bs : List ℕ) → AllPass is_ascii_whitespace gap → parted ended is_ascii_whitespace [] (gap ++ bs) ≡ parted ended is_ascii_whitespace [] bs
+over_gap [] bs h = refl
+over_gap (c ∷ cs) bs h = rw (h 0 0 (omega arith)) (over_gap cs bs (λ i d l. h (suc i) d (omega arith)))
+
+over_word : (w x bs : List ℕ) → AllBlack x → parted ended is_ascii_whitespace w (x ++ bs) ≡ parted ended is_ascii_whitespace (w ++ x) bs
+unfolding AllBlack
+over_word w [] bs h = rw (append-nil w) refl
+over_word w (c ∷ cs) bs h =
+    rw (h 0 (omega arith)) (over_word (w ++ (c ∷ [])) cs bs (λ i l. h (suc i) (omega arith)) ∙ ap (λ (v : List ℕ). parted ended is_ascii_whitespace v bs) (append_assoc w (c ∷ []) cs))
+
+ended_some : (w : List ℕ) (ws : List (List ℕ)) → 0 < length w → ended w ws ≡ w ∷ ws
 ended_some [] ws l = absurd (omega (arith, l))
 ended_some (c ∷ cs) ws l = refl
 
--- a piece that counts, and one that does not
-pub added_kept : (cut : Cut) (w : List ℕ) (start stop : ℕ) → length w ≡ stop - start → keeps cut start stop ≡ true → added cut w [] ≡ w ∷ []
-added_kept Lines w start stop n k = refl
-added_kept Words [] start stop n k = absurd (omega (arith, ltb-true start stop k))
-added_kept Words (c ∷ cs) start stop n k = refl
+-- a word ends at the byte after it, or with the text
+over_end : (x sep rest : List ℕ) → 0 < length x → IsAsciiSeparator sep rest → parted ended is_ascii_whitespace x (sep ++ rest) ≡ x ∷ parted ended is_ascii_whitespace [] rest
+over_end x [] [] l h = ended_some x [] l
+over_end x [] (c ∷ cs) l h = absurd (omega (arith, h.2 refl))
+over_end x (c ∷ []) rest l h = rw (h.0 0 0 (omega arith)) (ended_some x (parted ended is_ascii_whitespace [] rest) l)
+over_end x (c ∷ d ∷ ds) rest l h = absurd (omega (arith, h.1))
 
-pub added_none : (cut : Cut) (w : List ℕ) (start stop : ℕ) → length w ≡ stop - start → keeps cut start stop ≡ false → added cut w [] ≡ []
-added_none Lines w start stop n k = absurd (both_ways true k refl)
-added_none Words [] start stop n k = refl
-added_none Words (c ∷ cs) start stop n k = absurd (omega (arith, ltb-false start stop k))
+words_end : (s t : _) → split_ascii_whitespace_steps s None t → length (parted ended is_ascii_whitespace [] (split_ascii_whitespace_text s)) ≡ 0
+words_end s t h =
+    ap (λ (bs : List ℕ). length (parted ended is_ascii_whitespace [] bs)) (sym (append-nil (split_ascii_whitespace_text s)))
+    ∙ ap length (over_gap (split_ascii_whitespace_text s) [] h.0)
 
--- the text from a place up to a later one, and one byte more
-span_more : (bs : List ℕ) (start i : ℕ) → start ≤ i → i < length bs → take (i + 1 - start) (drop start bs) ≡ take (i - start) (drop start bs) ++ (get_or bs i 0 ∷ [])
-span_more bs start i s l =
-    let a : i + 1 - start ≡ i - start + 1 = omega arith in
-    let b : start + (i - start) ≡ i = omega arith in
-    let d : i - start < length (drop start bs) = omega (arith, length-drop start bs) in
-    let e = get_or-drop start bs (i - start) 0 in
-    ap (λ (k : ℕ). take k (drop start bs)) a ∙ take_more (drop start bs) (i - start) 0 d ∙ ap (λ (x : ℕ). take (i - start) (drop start bs) ++ (x ∷ [])) (e ∙ ap (λ (k : ℕ). get_or bs k 0) b)
+words_more : (s : _) (x : Bor (List ℕ)) (t : _) → split_ascii_whitespace_steps s (Some x) t
+    → parted ended is_ascii_whitespace [] (split_ascii_whitespace_text s) ≡ x.now ∷ parted ended is_ascii_whitespace [] (split_ascii_whitespace_text t)
+words_more s x t (some, black, _, (gap, sep, e, white, after)) =
+    ap (parted ended is_ascii_whitespace []) e
+    ∙ over_gap gap (x.now ++ (sep ++ split_ascii_whitespace_text t)) white
+    ∙ over_word [] x.now (sep ++ split_ascii_whitespace_text t) (all_black x.now black)
+    ∙ over_end x.now sep (split_ascii_whitespace_text t) some after
 
--- how a list of pieces is put together, and where a text is cut: at ASCII bytes
-pub record Parts (add : List ℕ → List (List ℕ) → List (List ℕ)) (test : ℕ → Bool) : Type 0 where
-  pub before : (w : List ℕ) (ws : List (List ℕ)) → add w ws ≡ add w [] ++ ws
-  pub ascii : (c : ℕ) → test c ≡ true → c < 128
+-- what `split_ascii_whitespace` yields
+pub yields_words : {s : _} (bs : List ℕ) → split_ascii_whitespace_text s ≡ bs → YieldsList split_ascii_whitespace_steps (λ x. x.now) s (parted ended is_ascii_whitespace [] bs)
+yields_words {s} bs e =
+    subst (λ (text : List ℕ). YieldsList split_ascii_whitespace_steps (λ x. x.now) s (parted ended is_ascii_whitespace [] text)) e
+    (YieldsList-from_shown split_ascii_whitespace_steps (λ x. x.now) (λ u. parted ended is_ascii_whitespace [] (split_ascii_whitespace_text u)) words_end words_more s)
 
-ended_before : (w : List ℕ) (ws : List (List ℕ)) → ended w ws ≡ ended w [] ++ ws
-ended_before [] ws = refl
-ended_before (c ∷ cs) ws = refl
+-- the text up to its last line feed
+pub ended_at : (bs : List ℕ) (i : ℕ) → i < length bs → get_or bs i 0 ≡ 10 → ((k : ℕ) → i < k → k < length bs → get_or bs k 0 ≡ 10 → ⊥) → LineStart bs (length bs) (i + 1)
+ended_at bs i l e h =
+    let back : i + 1 - 1 ≡ i = omega arith in
+    record { within = omega (arith, l); after = λ p. ap (λ (k : ℕ). get_or bs k 0) back ∙ e; none = λ k a b. h k (omega (arith, a)) b }
 
-cut_before : (cut : Cut) (w : List ℕ) (ws : List (List ℕ)) → added cut w ws ≡ added cut w [] ++ ws
-cut_before Lines w ws = refl
-cut_before Words w ws = ended_before w ws
+-- where no line feed stands the text begins its one line
+pub unended : (bs : List ℕ) → ((k : ℕ) → k < length bs → get_or bs k 0 ≡ 10 → ⊥) → LineStart bs (length bs) 0
+unended bs h = record { within = omega arith; after = λ p. absurd (omega (arith, p)); none = λ k a b. h k b }
 
-cut_ascii : (cut : Cut) (c : ℕ) → ends cut c ≡ true → c < 128
-cut_ascii Lines c e = grind (arith, e)
-cut_ascii Words c e = grind (arith, e)
+-- what `rfind` at a line feed answers
+pub feed_of : (bs : List ℕ) (r : Option ℕ) → MatchOption r (RFindsChar 10 bs None) (λ i. (j : ℕ) × RFindsChar 10 bs (Some (i, j)) × (i ≤ j) × IsCharBoundary bs i × IsCharBoundary bs j)
+    → MatchOption r (LineStart bs (length bs) 0) (λ i. (i < length bs) × (get_or bs i 0 ≡ 10) × LineStart bs (length bs) (i + 1))
+feed_of bs None h = unended bs (rfind_char 10 bs None h (omega arith))
+feed_of bs (Some i) h =
+    let p = rfind_char 10 bs (Some i) h (omega arith) in
+    (p.0, p.1, ended_at bs i p.0 p.1 p.2)
 
-pub cut_parts : (cut : Cut) → Parts (added cut) (ends cut)
-cut_parts cut = record { before = cut_before cut; ascii = cut_ascii cut }
+-- where the line begins in which the bytes cease to be text
+pub start_of : (bs : List ℕ) (stop start : ℕ) → IsValidUpTo bs stop → LineStart (take stop bs) (length (take stop bs)) start → LineStart bs stop start
+start_of bs stop start v h =
+    let n : length (take stop bs) ≡ stop = simp length-take (omega (arith, v.short)) in
+    let within : start ≤ stop = omega (arith, n, h.within) in
+    record {
+      within = within;
+      after = λ p. sym (get_or-take stop bs (start - 1) 0 (omega (arith, within, p))) ∙ h.after p;
+      none = λ k a b e. h.none k a (omega (arith, n, b)) (get_or-take stop bs k 0 b ∙ e);
+    }
 
-pub words_parts : Parts ended is_ascii_whitespace
-words_parts = record { before = ended_before; ascii = cut_ascii Words }
-
-pub lines_parts : Parts (λ line later. line ∷ later) (λ c. eqb c 10)
-lines_parts = record { before = λ w ws. refl; ascii = cut_ascii Lines }
-
-module _ {add : List ℕ → List (List ℕ) → List (List ℕ)} {test : ℕ → Bool} (p : Parts add test) (bs : List ℕ) where
-  going_on : (start i : ℕ) → start ≤ i → i < length bs → test (get_or bs i 0) ≡ false
-      → parted add test (take (i - start) (drop start bs)) (drop i bs) ≡ parted add test (take (i + 1 - start) (drop start bs)) (drop (i + 1) bs)
-  going_on start i s l e =
-      ap (parted add test (take (i - start) (drop start bs))) (drop_more bs i 0 l) ∙ rw (e, span_more bs start i s l) refl
-
-  cutting : (start i : ℕ) → i < length bs → test (get_or bs i 0) ≡ true
-      → parted add test (take (i - start) (drop start bs)) (drop i bs) ≡ add (take (i - start) (drop start bs)) [] ++ parted add test [] (drop (i + 1) bs)
-  cutting start i l e =
-      ap (parted add test (take (i - start) (drop start bs))) (drop_more bs i 0 l) ∙ rw e (p.before (take (i - start) (drop start bs)) (parted add test [] (drop (i + 1) bs)))
-
-  at_end : (start i : ℕ) → length bs ≤ i → parted add test (take (i - start) (drop start bs)) (drop i bs) ≡ add (take (i - start) (drop start bs)) []
-  at_end start i l = ap (parted add test (take (i - start) (drop start bs))) (drop_all i bs l)
-
-  -- ws are the pieces of bs up to the place start, where the piece begins that has come up to i
-  abbrev pub Found : List (List ℕ) → ℕ → ℕ → Type 0
-  Found ws start i = (start ≤ i) × IsCharBoundary bs start × (ws ++ parted add test (take (i - start) (drop start bs)) (drop i bs) ≡ parted add test [] bs)
-
-  pub found_none : IsUtf8 bs → Found [] 0 0
-  found_none u = (omega arith, IsCharBoundary-start bs u, refl)
-
-  -- a byte that fails the test goes on with the piece
-  pub found_more : (ws : List (List ℕ)) (start i : ℕ) → i < length bs → test (get_or bs i 0) ≡ false → Found ws start i → Found ws start (i + 1)
-  found_more ws start i l e (s, b, h) = (omega arith, b, ap (λ (r : List (List ℕ)). ws ++ r) (sym (going_on start i s l e)) ∙ h)
-
-  -- a byte that passes it ends the piece, and another begins after it
-  pub found_cut : (ws vs : List (List ℕ)) (start i : ℕ) → IsUtf8 bs → i < length bs → test (get_or bs i 0) ≡ true
-      → Found ws start i → vs ≡ ws ++ add (take (i - start) (drop start bs)) [] → Found vs (i + 1) (i + 1)
-  found_cut ws vs start i u l e (s, b, h) v =
-      let z : i + 1 - (i + 1) ≡ 0 = omega arith in
-      let low = p.ascii (get_or bs i 0) e in
-      (omega arith, IsCharBoundary-after_ascii bs i u l low, rw (z, v) (append_assoc ws (add (take (i - start) (drop start bs)) []) (parted add test [] (drop (i + 1) bs)) ∙ ap (λ (r : List (List ℕ)). ws ++ r) (sym (cutting start i l e)) ∙ h))
-
-  -- at the end of the text its last piece ends
-  pub found_all : (ws vs : List (List ℕ)) (start i : ℕ) → length bs ≤ i → Found ws start i → vs ≡ ws ++ add (take (i - start) (drop start bs)) [] → vs ≡ parted add test [] bs
-  found_all ws vs start i l (s, b, h) v = v ∙ ap (λ (r : List (List ℕ)). ws ++ r) (sym (at_end start i l)) ∙ h
-
--- the lines before the one that is not UTF-8 are UTF-8
-pub front_utf8 : (bs : List ℕ) (stop start : ℕ) → IsValidUpTo bs stop → LineStart bs stop start → IsUtf8 (take start bs)
-front_utf8 bs stop zero v h = IsUtf8-nil
-front_utf8 bs stop (suc k) v h =
-    let in-stop : k < stop = omega (arith, h.within) in
-    let in-front : k < length (take stop bs) = simp length-take (omega (arith, v.short)) in
-    let feed : get_or (take stop bs) k 0 ≡ 10 = get_or-take stop bs k 0 in-stop ∙ (simp unary_clauses at (h.after (omega arith))) in
-    let cut = IsUtf8-take (take stop bs) (k + 1) v.front (IsCharBoundary-after_ascii (take stop bs) k v.front in-front (omega arith)) in
-    let one : k + 1 ≡ suc k = omega arith in
-    subst IsUtf8 (take-take (k + 1) stop bs (omega arith) ∙ ap (λ (n : ℕ). take n bs) one) cut
+-- the whole lines of the text before those bytes are a front of them
+pub front_of_text : (bs text front : List ℕ) (stop : ℕ) → IsValidUpTo bs stop → text ≡ take stop bs → front ≡ take (length front) text
+    → LineStart text (length text) (length front) → (start : ℕ) × LineStart bs stop start × (front ≡ take start bs)
+front_of_text bs text front stop v t f h =
+    let l = start_of bs stop (length front) v (subst (λ (x : List ℕ). LineStart x (length x) (length front)) t h) in
+    (length front, l, f ∙ ap (take (length front)) t ∙ take-take (length front) stop bs (omega (arith, l.within)))

@@ -1,10 +1,8 @@
 -- The lines of a text and the words of a line, from their bytes. `is_ascii_whitespace` is the library's
 -- test for a tab, a line feed, a form feed, a carriage return or a blank.
-use Rattle.std.specs.Prelude.{◌≡◌, ℕ, ◌-◌, ◌<◌, ◌≤◌, Bool, true, false, cond, List, [], ◌∷◌, ◌++◌, take, IsUtf8, ◌==◌, ◌≢◌, nat_eq, nat_lt, slice_index}
+use Rattle.std.specs.Prelude.{◌≡◌, ℕ, ◌-◌, ◌<◌, ◌≤◌, Bool, true, false, cond, List, [], ◌∷◌, ◌++◌, take, IsUtf8, ◌==◌, ◌≢◌, nat_eq, slice_index}
 use Rattle.std.specs.Str.{IsValidUpTo}
 use Rattle.std.specs.Char.{is_ascii_whitespace}
-use Rattle.words.specs.declared.lines.Cut.{Cut}
-use Rattle.words.specs.declared.lines.Cut.TheVariants.{Lines, Words}
 
 -- what stands of a line before its first `#`, which is byte 35
 abbrev pub before_comment : List ℕ → List ℕ
@@ -21,21 +19,6 @@ ended (c ∷ cs) ws = (c ∷ cs) ∷ ws
 abbrev pub parted : (List ℕ → List (List ℕ) → List (List ℕ)) → (ℕ → Bool) → List ℕ → List ℕ → List (List ℕ)
 parted add test w [] = add w []
 parted add test w (c ∷ cs) = cond (test c) (add w (parted add test [] cs)) (parted add test (w ++ (c ∷ [])) cs)
-
--- the bytes that end a line, a line feed, which is byte 10, and those that end a word
-abbrev pub ends : Cut → ℕ → Bool
-ends Lines c = c == 10
-ends Words c = is_ascii_whitespace c
-
--- a piece from start up to stop counts: any line, and a word that is not empty
-abbrev pub keeps : Cut → ℕ → ℕ → Bool
-keeps Lines start stop = true
-keeps Words start stop = nat_lt start stop
-
--- a piece before the later ones, if it counts
-abbrev pub added : Cut → List ℕ → List (List ℕ) → List (List ℕ)
-added Lines piece later = piece ∷ later
-added Words piece later = ended piece later
 
 -- the words of a line: what stands before its comment, cut at white space, without empty pieces
 abbrev pub words_in : List ℕ → List (List ℕ)

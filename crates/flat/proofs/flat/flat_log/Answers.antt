@@ -7,7 +7,7 @@ use Rattle.flat.proofs.flat.flat_log.Goals as goal
 pub returns : goal.returns
 unfolding flat_base
 returns c =
-    let a = c.entry_log.ensures.near (ap (log_under c.args.depth) c.ac_q-ac.ensures ∙ ac_under c.args.depth c.args.qindex) in
+    let a = c.entry_log.ensures.near (ap (log_under c.args.depth) c.q-ac.ensures ∙ ac_under c.args.depth c.args.qindex) in
     let d = c.entry_log-2.ensures.near (ap (log_under c.args.depth) c.matching_dc-dc.ensures ∙ dc_under c.args.depth _) in
     let f : SFits w64 c.entry_log.result = search rules in
     let g : SFits w64 c.entry_log-2.result = search rules in

@@ -1,7 +1,6 @@
--- Past the last word there is none.
-use Rattle.std.proofs.Common.{rules}
+use Rattle.std.proofs.Common.{rules, arith}
+use Rattle.numerals.proofs.Reading.{texts_or}
 use Rattle.numerals.proofs.places.word_at.Goals as goal
-use Rattle.numerals.proofs.Reading.{past_end}
 
-pub returns-else-i-count : goal.returns-else-i-count
-returns-else-i-count c = search (rules, past_end)
+pub returns : goal.returns
+returns c = rw (c.unwrap_or.ensures, c.copied.ensures, c.get.ensures.lookup.4 (omega arith) _) (search (rules, texts_or))

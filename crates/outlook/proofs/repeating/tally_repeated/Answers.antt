@@ -1,4 +1,5 @@
-use Rattle.std.proofs.Common.{◌≡◌, ℕ, ◌-◌, ◌<◌, List, count_by, sym, ap, ◌∙◌, subst, arith}
+use Rattle.std.proofs.Common.{[], ◌≡◌, ℕ, ◌-◌, ◌<◌, List, count_by, sym, ap, ◌∙◌, subst, arith}
+use Rattle.std.proofs.lemmas.Grind.{common_steps}
 use Rattle.std.proofs.lemmas.List.Sums.{count_by-le-length}
 use Rattle.outlook.specs.declared.counts.Counts.{Counts}
 use Rattle.outlook.specs.Bytes.{is_shown, front, repeated}
@@ -10,12 +11,11 @@ use Rattle.outlook.proofs.Repeats.{cycled, cycled_within, repeated_within}
 use Rattle.outlook.proofs.repeating.tally_repeated.Goals as goal
 use Rattle.outlook.proofs.repeating.tally_repeated.Goals.{After-repeat}
 
-pub returns-then-units-eq0 : goal.returns-then-units-eq0
-returns-then-units-eq0 c =
+pub returns-then-units-eq0-clause-value : goal.returns-then-units-eq0-clause-value
+returns-then-units-eq0-clause-value c =
     let xs : List ℕ = bytes_of c.args.entries.now in
-    let e : c.none.result ≡ tally (front c.args.units (repeated xs))
-    = c.none.ensures ∙ ap tally (sym (front_none (repeated xs))) ∙ ap (λ u. tally (front u (repeated xs))) (sym c.if-units-eq0.true) in
-    record { value = e; bound = subst (λ (a : Counts). Within 4096 a) (sym e) (repeated_within c.args.units xs) }
+    let none : c.default.result ≡ tally [] = grind (arith, common_steps) in
+    none ∙ ap tally (sym (front_none (repeated xs))) ∙ ap (λ u. tally (front u (repeated xs))) (sym c.if-units-eq0.true)
 
 -- the whole cycles and the rest together
 together : (c : After-repeat) → both c.repeat.result c.tally_front-rest.result ≡ tally (front c.args.units (repeated (bytes_of c.args.entries.now)))

@@ -1,14 +1,15 @@
-use Rattle.std.proofs.Common.{◌≡◌, length, vec_items, sym, ap, ◌∙◌}
-use Rattle.words.specs.Words.{texts}
+use Rattle.std.proofs.Common.{vec_items, rules}
+use Rattle.std.proofs.lemmas.Result.{err_from_is_err_and}
 use Rattle.words.specs.Lines.{lines_in}
-use Rattle.words.proofs.Reading.{length_texts}
-use Rattle.queries.specs.Read.{all_asked}
+use Rattle.queries.proofs.Asking.{wrong_in, all_in}
 use Rattle.queries.proofs.lines.queries.Goals as goal
 
-pub returns : goal.returns
-returns c =
-    let text = c.text_of-whole.result.0.now in
-    let lines = c.in-Ok.ensures in
-    let same = ap texts c.as_slice.ensures.value ∙ lines in
-    let n : c.len.result ≡ length (lines_in text) = c.len.ensures ∙ c.in-Ok.lines.ok.0 ∙ sym (length_texts (vec_items c.in-Ok.lines)) ∙ ap length lines in
-    record { accepted = tt; refused = (text, c.text_of-whole.result.1, c.text_of-whole.ensures, (vec_items c.in_ok-queries.queries, c.if-whole.false, n, ap all_asked (sym same) ∙ c.in_ok-queries.ensures)) }
+pub returns-in_err-all-clause-refused : goal.returns-in_err-all-clause-refused
+returns-in_err-all-clause-refused c =
+    let p = err_from_is_err_and c.from_residual.result c.from_residual.ensures.1 in
+    rw (p.1, p.2) (wrong_in c.args.bytes.now (vec_items c.new.result) _ _ c.new.ensures.items c.in_err-all.ensures.refused)
+
+pub returns-clause-accepted : goal.returns-clause-accepted
+returns-clause-accepted c =
+    let all = all_in (lines_in c.args.bytes.now) (vec_items c.new.result) (vec_items c.in_ok-all.all.queries) c.new.ensures.items c.in_ok-all.ensures.accepted.1 in
+    search (rules, c.in_ok-all.ensures.accepted.0, all)

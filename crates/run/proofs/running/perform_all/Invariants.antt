@@ -6,6 +6,6 @@ abbrev pub invariant-loop-call : goal.invariant-loop-call
 invariant-loop-call g l =
     (vec_len l.answers ≡ l.call-index)
     × (length l.calls ≤ vec_capacity l.answers)
-    × Replaying g.M.BitModel.count g.M.BitModel.trimmed g.M.BitModel.next g.O.Outlook.entries l.outlooks
+    × Replaying g.M.BitModel.meaning g.O.Outlook.entries l.outlooks
     (record { core = l.initial.controller.core; model = l.initial.controller.model }) l.calls
     l.call-index l.controller.core l.controller.model (vec_items l.answers)

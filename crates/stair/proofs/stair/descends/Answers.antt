@@ -1,15 +1,11 @@
--- A turn shows one step more, or the one that rises.
-use Rattle.std.proofs.Common.{refl, arith}
-use Rattle.stair.specs.Stairs.{descends}
-use Rattle.stair.proofs.Rows.{down_more, rise_at}
+-- What the library says of a sorted row.
+use Rattle.std.proofs.Common.{leb, rules}
+use Rattle.std.proofs.lemmas.List.Sorted.{answers_always}
+use borrow.Author.Tests.{tests}
+use Rattle.stair.proofs.Rows.{sorted_down}
 use Rattle.stair.proofs.stair.descends.Goals as goal
 
-pub loop-k-init : goal.loop-k-init
-unfolding descends
-loop-k-init c = refl
-
-pub loop-k-preserved : goal.loop-k-preserved
-loop-k-preserved c = down_more _ _ (omega arith) c.loop-k.invariant
-
-pub returns-then-row-k : goal.returns-then-row-k
-returns-then-row-k c = rise_at c.args.row.now c.loop-k.k (omega arith) (omega arith)
+pub returns : goal.returns
+returns c =
+    sorted_down c.args.row.now c.is_sorted_by.result (search rules)
+    (c.is_sorted_by.ensures.cases (λ x y. leb y x) (answers_always _ _ _ (λ f a r g k. search (rules, tests))))

@@ -10,7 +10,7 @@ use Rattle.bessel.proofs.follower.IIRBessel2.output.Goals as goal
 
 joined : (f : IIRBessel2) (x i s r : ℤ)
     → i ≡ inputs x (get_or f.x 0 (pos 0)) (get_or f.x 1 (pos 0))
-    → s ≡ weighed i f.g (get_or f.y 0 (pos 0)) (get_or f.c 0 (pos 0)) (get_or f.y 1 (pos 0)) (get_or f.c 1 (pos 0))
+    → s ≡ weighed f.parameters i (get_or f.y 0 (pos 0)) (get_or f.y 1 (pos 0))
     → r ≡ int_wrap w32 (s ≫ 24) → r ≡ smoothed f x
 unfolding smoothed
 joined f x i s r p q h = cc
@@ -21,9 +21,6 @@ returns c =
     let f2 : SFits w32 (get_or c.args.self.now.x 1 (pos 0)) = search rules in
     let f3 : SFits w32 (get_or c.args.self.now.y 0 (pos 0)) = search rules in
     let f4 : SFits w32 (get_or c.args.self.now.y 1 (pos 0)) = search rules in
-    let f5 : SFits w32 (get_or c.args.self.now.c 0 (pos 0)) = search rules in
-    let f6 : SFits w32 (get_or c.args.self.now.c 1 (pos 0)) = search rules in
-    let f7 : SFits w32 c.args.self.now.g = search rules in
     let f8 : SFits w32 c.args.x = c.ranges.x in
     let f9 : SFits w64 c.inputs.result = search rules in
     let f10 : SFits w64 c.weighed-sum.result = search rules in

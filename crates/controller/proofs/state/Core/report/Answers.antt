@@ -3,9 +3,6 @@ use Rattle.controller.specs.Soundness.{Sound}
 use Rattle.controller.proofs.Charges.{reported_is, reported_sound}
 use Rattle.controller.proofs.state.Core.report.Goals as goal
 
-pub overflow_add-self-3 : goal.overflow_add-self-3
-overflow_add-self-3 c = let h = c.requires.sound.reports_few c.code.result in record { fits = omega (arith, h) }
-
 pub returns : goal.returns
 returns c =
     let s = c.args.self.now in
@@ -13,9 +10,9 @@ returns c =
     let fx : SFits w64 c.surplus.result = search rules in
     let fb : SFits w64 c.saturating_add-self.result = search rules in
     let e =
-    reported_is s c.args.subtype c.args.predicted c.args.bits c.args.shown c.args.droppable c.drops-dropped.result c.unless-charge.result c.coded_by.result c.code.result
+    reported_is s c.args.subtype c.args.predicted c.args.bits c.args.shown c.args.droppable c.drops-dropped.result c.unless-charge.result c.coded_by.result c.from.result
     c.settle.new.self c.surplus.result c.saturating_add-self.result c.ranges.predicted fs fx fb c.drops-dropped.ensures c.unless-charge.ensures c.settle.ensures c.surplus.ensures
-    c.saturating_add-self.ensures c.coded_by.ensures.value c.code.ensures.value in
+    c.saturating_add-self.ensures c.coded_by.ensures.value c.from.ensures.0 in
     record {
       answer = let d = c.drops-dropped.ensures in let u = c.unless-charge.ensures in cc;
       after = e;

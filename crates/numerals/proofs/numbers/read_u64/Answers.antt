@@ -1,6 +1,0 @@
-use Rattle.std.proofs.Common.{rules}
-use Rattle.numerals.proofs.numbers.read_u64.Goals as goal
-use Rattle.numerals.proofs.Reading.{unsigned_read}
-
-pub returns : goal.returns
-returns c = search (rules, unsigned_read 64 c.args.word.now _ c.parse.ensures.value.0)
