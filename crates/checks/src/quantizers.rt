@@ -18,7 +18,7 @@ fn refuses_depth(rt: &impl Abort, depth: u8) {
     assert_eq!(rt; number(depth, 0), 4);
 }
 
-// The number of the refusal of a whole quantizer, or 0.
+// The number of the refusal of a whole quantizer, or 0: so that what is expected stands as the rules number it.
 fn number(depth: u8, sampling: u8) -> u8 {
     match QuantizerParameters::new_from_log_q(0, 0, depth, sampling, true, 0) {
         Ok(_) => 0,

@@ -7,7 +7,8 @@ use stair::Stair;
 use std::process::Abort;
 use std::test::Fail;
 
-// The number that opening answers, with a model that comes back as it was; 0 where it is accepted.
+// The number that opening answers, with a model that comes back as it was; 0 where it is accepted, so that what is
+// expected stands as the rules number it.
 fn number(rt: &impl Abort, settings: Settings) -> Result<u8, Fail> {
     let stair = Stair::new([[5; 64]; 4])?;
     match Controller::open(&settings, stair) {

@@ -9,7 +9,7 @@
 use model::{Lesson, Room, Settings};
 use operands::{Malformed, Operands};
 
-// A call of the curve model, or the making of a curve.
+// A call of the curve model, or the making of a curve. Subtypes are numbers, as the model takes them.
 #[derive(Clone, Copy)]
 pub enum Line {
     // The curve that the following lines are about.

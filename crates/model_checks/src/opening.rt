@@ -6,7 +6,7 @@ use std::process::Abort;
 use std::test::Fail;
 use tables::Depth;
 
-// The number of the first question that is answered by no, or 0.
+// The number of the first question that is answered by no, or 0: so that what is expected stands as the rules number it.
 fn number(settings: Settings) -> u8 {
     match settings.accept() {
         Ok(_) => 0,

@@ -5,6 +5,7 @@ use model::{Lesson, Room, Settings};
 pub(crate) const ONE: i64 = 1 << 57;
 
 // 640 by 360 at 25 frames and 1,000,000 bits a second, a delay of 12.
+// They stand in each crate of tests that needs them, since such a crate offers nothing to another.
 pub(crate) const USUAL: Settings = Settings {
     width: 640,
     height: 360,

@@ -50,6 +50,8 @@ impl Program for Qindex {
     }
 }
 
+// Each question is answered as its line is written: a function that `replay` could share would take that as a closure, and
+// be no plainer.
 fn answer_all<R: Print + AllocGlobal>(rt: &R, all: &[Query]) -> io::Result<()> {
     let mut out = BufWriter::new(rt.alloc(), io::writer(rt))?;
     for query in all {

@@ -1,4 +1,5 @@
--- What the lines of a text ask, and which line is told as wrong.
+-- What the lines of a text ask, and which line is told as wrong. They say in terms of questions what `operands` says of
+-- any reading: contracts were first stated so, and their meaning was to stay.
 use Rattle.std.specs.Prelude.{◌≡◌, ℕ, suc, ◌<◌, Bool, false, List, [], ◌∷◌, ◌++◌, length, take, Some, None, Option, slice_index_or}
 use Rattle.words.specs.Words.{then}
 use Rattle.words.specs.Lines.{words_in, lines_in, TextOf}

@@ -39,11 +39,11 @@ fn report(ticket: u64, bits: u32, droppable: bool) -> Call {
     }
 }
 
-// The fullness that a status tells; at any other answer a number that no status tells.
-fn fullness(answer: &Answer) -> i64 {
+// The fullness that a status tells.
+fn fullness(answer: &Answer) -> Option<i64> {
     match answer {
-        Answer::Told(status) => status.fullness,
-        _ => i64::MIN,
+        Answer::Told(status) => Some(status.fullness),
+        _ => None,
     }
 }
 
@@ -101,7 +101,7 @@ fn shown_report(rt: HostRuntime) -> Result<(), Fail> {
     assert_eq!(rt; *a, opened);
     assert_eq!(rt; choice(b, 1), Some((0, 1)));
     assert_eq!(rt; *c, charged);
-    assert_eq!(rt; fullness(d), 179_888);
+    assert_eq!(rt; fullness(d), Some(179_888));
     Ok(())
 }
 
@@ -134,7 +134,7 @@ fn dropping(rt: HostRuntime) -> Result<(), Fail> {
     });
     assert_eq!(rt; *a, dropped);
     assert_eq!(rt; *b, charged);
-    assert_eq!(rt; fullness(c), 0);
+    assert_eq!(rt; fullness(c), Some(0));
     Ok(())
 }
 
@@ -160,14 +160,14 @@ fn refused_calls(rt: HostRuntime) -> Result<(), Fail> {
     Ok(())
 }
 
-// The number of the question that refuses an opening; 0 where the run was performed or memory was wanting.
-fn refused_opening(heap: Global, curve: Curve, settings: Settings) -> u8 {
+// The number of the question that refuses an opening; none where the run was performed or memory was wanting.
+fn refused_opening(heap: Global, curve: Curve, settings: Settings) -> Option<u8> {
     let outlooks: [NothingAhead; 0] = [];
     match run(heap, &settings, curve, &outlooks, &[Call::Status]) {
-        Ok(_) => 0,
+        Ok(_) => None,
         Err(NotRun { fault, model: _ }) => match fault {
-            Fault::Opening(refusal) => refusal.into(),
-            Fault::Memory => 0,
+            Fault::Opening(refusal) => Some(refusal.into()),
+            Fault::Memory => None,
         },
     }
 }
@@ -179,6 +179,6 @@ fn refused_settings(rt: HostRuntime) -> Result<(), Fail> {
         bitrate: 0,
         ..USUAL
     };
-    assert_eq!(rt; refused_opening(rt.alloc(), curve, none), 3);
+    assert_eq!(rt; refused_opening(rt.alloc(), curve, none), Some(3));
     Ok(())
 }

@@ -4,12 +4,6 @@ use Rattle.std.proofs.lemmas.Int.{ints, to_z-of_z}
 use Rattle.bessel.proofs.Gains.{square_in, parameters_by, in_range_by, balanced_by}
 use Rattle.bessel.proofs.parameters.iir_bessel2_get_parameters.Goals as goal
 
-pub gain-a-requires : goal.gain-a-requires
-gain-a-requires c = (omega arith, square_in c.delay_tangent-warp.result (omega arith) (omega arith))
-
-pub nonzero_div-k2 : goal.nonzero_div-k2
-nonzero_div-k2 c = (square_in c.delay_tangent-warp.result (omega arith) (omega arith)).0
-
 pub returns : goal.returns
 returns c =
     let f1 : SFits w64 c.first_of-b1.result = search rules in

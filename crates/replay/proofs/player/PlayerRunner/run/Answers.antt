@@ -8,14 +8,6 @@ use Rattle.replay.specs.Answers.{run_answers, stair_at, model_answers}
 use Rattle.replay.proofs.Players.{no_curve, is_curve}
 use Rattle.replay.proofs.player.PlayerRunner.run.Goals as goal
 
-pub returns-in-Some : goal.returns-in-Some
-returns-in-Some c =
-    let s = c.args.settings.now in
-    let cs = c.args.calls.now in
-    let e : stair_at (vec_items c.args.self.now.script.now.stairs) c.args.stair ≡ Some c.in-Some.stair = subst (λ (xs : List Stair). stair_at xs c.args.stair ≡ Some c.in-Some.stair) c.as_slice.ensures.value (sym c.stair_at.ensures ∙ c.in-Some.is) in
-    subst (λ (o : Option Stair). IfOk c.answers_by.result (λ v. vec_items v ≡ model_answers o (vec_items c.args.self.now.script.now.outlooks) s cs)) (sym e)
-    (subst (λ (os : List Known). IfOk c.answers_by.result (λ v. vec_items v ≡ model_answers (Some c.in-Some.stair) os s cs)) c.as_slice-outlooks.ensures.value c.answers_by.ensures)
-
 pub returns-in_default-new : goal.returns-in_default-new
 returns-in_default-new c =
     let s = c.args.settings.now in
