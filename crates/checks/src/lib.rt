@@ -10,5 +10,6 @@ mod quantizers;
 mod questions;
 #[cfg(test)]
 mod reading;
+mod refusals;
 #[cfg(test)]
 mod texts;

@@ -1,4 +1,5 @@
 // The quantizer's refusals in their order, the ends of its tables, and its answers for whole frames.
+use crate::refusals::number;
 use flat::{NoSuchSubtype, Subtype};
 use quantize::{Coefficient, QuantizerParameters, Refusal, Scales, q, select_qi};
 use std::process::Abort;
@@ -16,14 +17,6 @@ fn refuses_depth(rt: &impl Abort, depth: u8) {
         Err(Refusal::NoSuchDepth)
     );
     assert_eq!(rt; number(depth, 0), 4);
-}
-
-// The number of the refusal of a whole quantizer, or 0: so that what is expected stands as the rules number it.
-fn number(depth: u8, sampling: u8) -> u8 {
-    match QuantizerParameters::new_from_log_q(0, 0, depth, sampling, true, 0) {
-        Ok(_) => 0,
-        Err(refusal) => refusal.into(),
-    }
 }
 
 #[test]

@@ -10,5 +10,6 @@ mod followers;
 mod opening;
 #[cfg(test)]
 mod operands;
+mod refusals;
 #[cfg(test)]
 mod stairs;

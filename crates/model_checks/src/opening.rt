@@ -1,18 +1,11 @@
 // The eight questions on both sides of every bound, their order, and the figures of accepted settings.
 use crate::operands::USUAL;
+use crate::refusals::number;
 use model::Settings;
 use quantize::ChromaSampling;
 use std::process::Abort;
 use std::test::Fail;
 use tables::Depth;
-
-// The number of the first question that is answered by no, or 0: so that what is expected stands as the rules number it.
-fn number(settings: Settings) -> u8 {
-    match settings.accept() {
-        Ok(_) => 0,
-        Err(no) => no.into(),
-    }
-}
 
 fn size(width: u32, height: u32) -> u8 {
     number(Settings {

@@ -2,6 +2,7 @@
 // tests is proved twice.
 #![tactic(auto)]
 
+mod again;
 #[cfg(test)]
 mod counting;
 #[cfg(test)]

@@ -1,5 +1,6 @@
 // Recorded calls and their answers, on the controller of the worked figures: 640 by 360 at 25/1 and 1,000,000 bits per
 // second, with a delay of 12.
+use crate::reports::report;
 use calls::{Answer, Call, Refusal, Reported, Status};
 use model::{Curve, Settings};
 use outlook::NothingAhead;
@@ -28,16 +29,6 @@ const CHOOSE: Call = Call::Choose {
     previous: None,
     log_isqrt_mean_scale: 0,
 };
-
-// A shown report.
-fn report(ticket: u64, bits: u32, droppable: bool) -> Call {
-    Call::Report {
-        ticket,
-        bits,
-        shown: true,
-        droppable,
-    }
-}
 
 // The fullness that a status tells.
 fn fullness(answer: &Answer) -> Option<i64> {

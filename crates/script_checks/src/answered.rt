@@ -1,7 +1,7 @@
 // The text of the replies to lines that have an answer.
+use crate::replying::reply_by;
 use calls::{Answer, Decision, Refusal, Reported, Status};
 use quantize::{QuantizerParameters, Scales};
-use replies::reply_to;
 use scripts::Line;
 use std::alloc::{AllocError, Global};
 use std::test::Fail;
@@ -17,7 +17,7 @@ const STATUS: Status = Status {
 
 // The text of the reply to a line by its answer.
 fn told(heap: Global, line: Line, answer: Answer) -> Result<String, AllocError> {
-    let reply = reply_to(line, Some(answer));
+    let reply = reply_by(line, answer);
     format!(in heap; "{reply}")
 }
 

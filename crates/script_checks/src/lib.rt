@@ -8,3 +8,4 @@ mod answered;
 mod faults;
 #[cfg(test)]
 mod made;
+mod replying;

@@ -1,5 +1,5 @@
 use Rattle.figures.proofs.Twelve.{figures}
 use Rattle.figures.proofs.figures_stand.Goals as goal
 
-pub returns : goal.returns
-returns g c = figures _ _
+pub returns-clause-hold : goal.returns-clause-hold
+returns-clause-hold g c = figures _ _
