@@ -4,6 +4,7 @@
 
 ghost use Rattle.std.specs.Prelude.{◌≡◌, IfOk};
 ghost use Rattle.std.specs.Process.{exit_status};
+ghost use Rattle.command.specs.declared.NoTask.TheVariants.{NotRead};
 
 use std::alloc::Global;
 use std::io::Read;
@@ -38,6 +39,8 @@ enum NoTask {
 }
 
 impl From<io::Error> for NoTask {
+    ghost from_gives = { λ e why. why ≡ NotRead e };
+
     fn from(e: io::Error) -> NoTask {
         NoTask::NotRead(e)
     }
