@@ -10,6 +10,6 @@ pub(crate) fn number(depth: u8, sampling: u8) -> u8
 {
     match QuantizerParameters::new_from_log_q(0, 0, depth, sampling, true, 0) {
         Ok(_) => 0,
-        Err(refusal) => refusal.into(),
+        Err(refusal) => refusal.number(),
     }
 }

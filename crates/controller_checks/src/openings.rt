@@ -15,7 +15,7 @@ fn number(rt: &impl Abort, settings: Settings) -> Result<u8, Fail> {
         Ok(_) => Ok(0),
         Err(unopened) => {
             assert_eq!(rt; unopened.model.predict(2, 0), 5);
-            Ok(unopened.refusal.into())
+            Ok(unopened.refusal.number())
         }
     }
 }

@@ -54,7 +54,7 @@ impl fmt::Display for Answer {
         match self {
             Answer::Made => f.write_str("curve ok"),
             Answer::Refused(refusal) => {
-                let number = u8::from(*refusal);
+                let number = refusal.number();
                 write!(f, "curve refused {number}")
             }
             Answer::Learnt => f.write_str("learn ok"),

@@ -1,2 +1,2 @@
 // The settings that a model is made from, passed on from `setup`.
-pub use setup::{Accepted, Settings};
+pub use setup::{Accepted, LawfulSettings, Settings};

@@ -10,6 +10,6 @@ pub(crate) fn number(settings: Settings) -> u8
 {
     match settings.accept() {
         Ok(_) => 0,
-        Err(no) => no.into(),
+        Err(no) => no.number(),
     }
 }

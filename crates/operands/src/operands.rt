@@ -8,12 +8,22 @@ ghost use Rattle.operands.specs.Line.{words_of, values};
 use crate::fault::{Fault, Malformed};
 use crate::kind::Operand;
 use std::alloc::Global;
-use words::{count, word_at};
+use words::{count, has_count, word_at};
 
 // The words of a line: its name, and then its operands.
 #[derive(Clone, Copy)]
 pub struct Operands<'w, 'a> {
     words: &'w [&'a str],
+}
+
+// Whether there are exactly n words beside the name.
+fn has_operands(words: &[&str], n: usize) -> bool
+    ensures { result ≡ (length (texts words.now) == n + 1) }
+{
+    match words.split_first() {
+        Some((_, operands)) => has_count(operands, n),
+        None => false,
+    }
 }
 
 impl<'w, 'a> Operands<'w, 'a> {
@@ -22,6 +32,13 @@ impl<'w, 'a> Operands<'w, 'a> {
         ensures { words_of result ≡ texts words.now }
     {
         Operands { words }
+    }
+
+    // The words of the line, its name first.
+    pub fn words(self) -> &'w [&'a str]
+        ensures { texts result.now ≡ words_of self.entry }
+    {
+        self.words
     }
 
     // The name of the line; it is empty where the line has no words.
@@ -46,7 +63,7 @@ impl<'w, 'a> Operands<'w, 'a> {
         ensures accepted { is_ok result ≡ (length (words_of self.entry) == n + 1) }
         ensures refused { IfErr result (λ m. IsCount m n which.now (words_of self.entry)) }
     {
-        if count(self.words).checked_sub(1) == Some(n) {
+        if has_operands(self.words, n) {
             return Ok(());
         }
         Err(Malformed::Count {

@@ -2,17 +2,16 @@
 use Rattle.std.proofs.Common.{◌≡◌, ℕ, ◌+◌, ◌-◌, ◌<◌, ◌≤◌, Bool, true, false, cond, List, [], ◌∷◌, ◌++◌, length, get_or, take, drop, sym, ap, ◌∙◌, subst, arith}
 use Rattle.std.proofs.lemmas.List.{length-take}
 use Rattle.outlook.specs.declared.counts.Counts.{Counts}
-use Rattle.outlook.specs.declared.entry.Entry.{Entry}
+use Rattle.outlook.specs.declared.packed.Packed.{Packed}
 use Rattle.outlook.specs.Bytes.{is_shown, unit, front}
 use Rattle.outlook.specs.Counting.{tally, both, Within}
-use Rattle.outlook.specs.Entries.{bytes_of}
-use Rattle.outlook.specs.EntriesLemmas.{length_bytes}
+use Rattle.outlook.specs.Packing.{packed_bytes, length_packed}
 use Rattle.outlook.specs.Tallies.{tally_more, tally_within}
 use Rattle.outlook.specs.Fronts.{front_more}
 
-pub walk_within : (es : List Entry) (i : ℕ) (a : Counts) → length es ≤ 4096 → a ≡ tally (take i (bytes_of es)) → Within 4096 a
+pub walk_within : (es : List Packed) (i : ℕ) (a : Counts) → length es ≤ 4096 → a ≡ tally (take i (packed_bytes es)) → Within 4096 a
 walk_within es i a h e =
-    subst (λ (b : Counts). Within 4096 b) (sym e) (tally_within 4096 (take i (bytes_of es)) (omega (arith, length-take i (bytes_of es), length_bytes es)))
+    subst (λ (b : Counts). Within 4096 b) (sym e) (tally_within 4096 (take i (packed_bytes es)) (omega (arith, length-take i (packed_bytes es), length_packed es)))
 
 pub one_within : (a : Counts) (x : ℕ) → a ≡ tally (x ∷ []) → Within 4096 a
 one_within a x e = subst (λ (b : Counts). Within 4096 b) (sym e) (tally_within 4096 (x ∷ []) (omega arith))

@@ -2,6 +2,7 @@ pub mod Bytes
 pub mod Counting
 pub mod Entries
 pub mod Numbers
+pub mod Packing
 pub mod Making
 pub mod Laws
 pub mod Either

@@ -2,8 +2,8 @@
 use Rattle.std.specs.Prelude.{◌≡◌, ℕ, cond, ◌&&◌, List, length, Some, None, Ok, Err, vec_items, Option, Result, nat_le}
 use Rattle.std.specs.Global.{Vec}
 use Rattle.outlook.specs.Bytes.{all_lawful}
-use Rattle.outlook.specs.Entries.{bytes_of}
-use Rattle.outlook.specs.declared.entry.Entry.{Entry}
+use Rattle.outlook.specs.Packing.{packed_bytes}
+use Rattle.outlook.specs.declared.packed.Packed.{Packed}
 use Rattle.outlook.specs.declared.list.List.{List as Listed}
 use Rattle.outlook.specs.declared.pattern.Pattern.{Pattern}
 use Rattle.outlook.specs.declared.refusal.NotMade.{NotMade}
@@ -30,12 +30,12 @@ Answered None xs (Ok ys) = ys ≡ xs
 Answered None xs (Err e) = e ≡ NoMemory
 
 -- the bytes of what was made of entries
-abbrev pub bytes_in : {T : Type 0} → (T → List Entry) → Result T NotMade → Result (List ℕ) NotMade
-bytes_in entries (Ok o) = Ok (bytes_of (entries o))
+abbrev pub bytes_in : {T : Type 0} → (T → List Packed) → Result T NotMade → Result (List ℕ) NotMade
+bytes_in entries (Ok o) = Ok (packed_bytes (entries o))
 bytes_in entries (Err e) = Err e
 
 -- the bytes of entries that were read
-abbrev pub read : Result (Vec Entry) NotMade → Result (List ℕ) NotMade
+abbrev pub read : Result (Vec Packed) NotMade → Result (List ℕ) NotMade
 read r = bytes_in (λ v. vec_items v) r
 
 -- the entries of a list that was made

@@ -10,6 +10,8 @@ mod laws;
 mod list;
 mod making;
 mod nothing;
+mod packed;
+mod packing;
 mod pattern;
 mod refusal;
 mod repeating;

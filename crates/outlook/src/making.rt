@@ -6,6 +6,7 @@ ghost use Rattle.outlook.specs.Making.{Answered, entries_question, read, listed,
 
 use crate::entry::Entry;
 use crate::list::List;
+use crate::packed::Packed;
 use crate::pattern::Pattern;
 use crate::refusal::{NotMade, Refusal};
 use std::alloc::Global;
@@ -28,12 +29,12 @@ fn all_lawful(bytes: &[u8]) -> bool
 }
 
 // The entries with these bytes. Refused: fewer or more of them than the lengths hold (31), an entry that is not lawful
-// (32), in this order; then want of memory. So all bytes are asked before memory is taken, and each is read again.
+// (32), in this order; then want of memory. So all bytes are asked before memory is taken, and then kept as they are.
 fn entries_of(
     heap: Global,
     bytes: &[u8],
     lengths: RangeInclusive<usize>,
-) -> Result<Vec<Entry>, NotMade>
+) -> Result<Vec<Packed>, NotMade>
     requires { range_inclusive_exhausted lengths ≡ false }
     ensures answer { Answered (entries_question (range_inclusive_start lengths) (range_inclusive_end lengths) bytes.now) bytes.now (read result) }
     ensures within { IfOk result (λ v. (range_inclusive_start lengths ≤ vec_len v) × (vec_len v ≤ range_inclusive_end lengths)) }
@@ -46,7 +47,7 @@ fn entries_of(
     }
     let mut items = Vec::with_capacity(heap, bytes.len())?;
     for byte in bytes {
-        items.push_reserved(Entry::try_from(*byte).unwrap());
+        items.push_reserved(Packed { byte: *byte });
     }
     Ok(items)
 }

@@ -2,10 +2,10 @@
 ghost use Rattle.std.specs.Prelude.{◌≡◌, ◌+◌, ◌*◌, ◌/◌, ◌%◌, ◌<◌, ◌≤◌, length, if◌then◌else◌, nat_eq};
 ghost use Rattle.outlook.specs.Bytes.{front, repeated};
 ghost use Rattle.outlook.specs.Counting.{tally, Within};
-ghost use Rattle.outlook.specs.Entries.{bytes_of};
+ghost use Rattle.outlook.specs.Packing.{packed_bytes};
 
 use crate::counts::Counts;
-use crate::entry::Entry;
+use crate::packed::Packed;
 use crate::walking::tally_front;
 
 // The entries of a repeated pattern.
@@ -33,9 +33,9 @@ fn part(whole: usize, most: usize, len: usize) -> usize
 }
 
 // What the front part of repeated entries comes to.
-pub(crate) fn tally_repeated(entries: &[Entry], units: u32) -> Counts
+pub(crate) fn tally_repeated(entries: &[Packed], units: u32) -> Counts
     requires { (0 < length entries.now) × (length entries.now ≤ 64) }
-    ensures value { result ≡ tally (front units (repeated (bytes_of entries.now))) }
+    ensures value { result ≡ tally (front units (repeated (packed_bytes entries.now))) }
     ensures bound { Within 4096 result }
 {
     if units == 0 {

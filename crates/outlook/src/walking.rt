@@ -2,10 +2,12 @@
 ghost use Rattle.std.specs.Prelude.{◌≡◌, ◌*◌, ◌≤◌, [], ◌∷◌, length};
 ghost use Rattle.outlook.specs.Bytes.{front};
 ghost use Rattle.outlook.specs.Counting.{tally, both, times, Within};
-ghost use Rattle.outlook.specs.Entries.{byte_of, bytes_of};
+ghost use Rattle.outlook.specs.Entries.{byte_of};
+ghost use Rattle.outlook.specs.Packing.{packed_bytes};
 
 use crate::counts::Counts;
 use crate::entry::{Entry, SEF};
+use crate::packed::Packed;
 
 fn product(n: u32, figure: u32) -> u32
     requires { (n ≤ 4096) × (figure ≤ 4096) }
@@ -53,9 +55,9 @@ impl Counts {
 }
 
 // What the shortest front part with so many shown entries comes to, or else all of them.
-pub(crate) fn tally_front(entries: &[Entry], units: u32) -> Counts
+pub(crate) fn tally_front(entries: &[Packed], units: u32) -> Counts
     requires { length entries.now ≤ 4096 }
-    ensures value { result ≡ tally (front units (bytes_of entries.now)) }
+    ensures value { result ≡ tally (front units (packed_bytes entries.now)) }
     ensures bound { Within 4096 result }
 {
     let mut all = Counts::default();
@@ -63,7 +65,7 @@ pub(crate) fn tally_front(entries: &[Entry], units: u32) -> Counts
         if all.shown == units {
             return all;
         }
-        all = all.plus(Counts::of_one(*entry));
+        all = all.plus(Counts::of_one(Entry::from(*entry)));
     }
     all
 }

@@ -1,8 +1,9 @@
 -- What a question is answered, by the definitions of the logarithm, the exponential and the quantizer.
-use Rattle.std.specs.Prelude.{Ok, Result}
+use Rattle.std.specs.Prelude.{ℕ, List, ◌++◌, Ok, Err, Result, Some, None, Option, codes}
+use Rattle.std.specs.Fmt.{decimal}
 use Rattle.logexp.specs.LogExp.{bexp64, blog64}
 use Rattle.quantize.specs.declared.answer.Refusal.{Refusal}
-use Rattle.quantize.specs.Call.{and_then, answer, select_answer, quantizer_answer}
+use Rattle.quantize.specs.Call.{number, and_then, answer, select_answer, quantizer_answer}
 use Rattle.queries.specs.declared.answer.Answer.{Answer}
 use Rattle.queries.specs.declared.answer.Answer.TheVariants.{Log, Entry, Index, Parameters}
 use Rattle.queries.specs.declared.query.Query.{Query}
@@ -15,3 +16,8 @@ told (Bexp64 x) = Ok (Log (bexp64 x))
 told (Q c d i) = and_then (answer c i d) (λ e. Ok (Entry e))
 told (SelectQi c d q) = and_then (select_answer c q d) (λ i. Ok (Index i))
 told (Quantizer q d s i m) = and_then (quantizer_answer q q d s i m) (λ p. Ok (Parameters p))
+
+-- what is printed for a refusal: `refused` and its number. Of an accepted answer nothing is said
+abbrev pub outcome_text : Result Answer Refusal → Option (List ℕ)
+outcome_text (Ok a) = None
+outcome_text (Err r) = Some (codes "refused " ++ decimal (number r))

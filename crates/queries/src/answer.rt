@@ -1,6 +1,6 @@
 // What a question is answered, and how the answer is written.
 ghost use Rattle.std.specs.Prelude.{◌≡◌};
-ghost use Rattle.queries.specs.Told.{told};
+ghost use Rattle.queries.specs.Told.{told, outcome_text};
 
 use crate::query::Query;
 use logexp::{bexp64, blog64};
@@ -65,11 +65,13 @@ impl fmt::Display for Answer {
 pub struct Outcome(pub Result<Answer, Refusal>);
 
 impl fmt::Display for Outcome {
+    ghost output = { λ outcome. outcome_text outcome.0 };
+
     fn fmt<W: fmt::Write>(&self, f: &mut fmt::Formatter<W>) -> fmt::Result {
         match self.0 {
             Ok(answer) => write!(f, "{answer}"),
             Err(refusal) => {
-                let number = u8::from(refusal);
+                let number = refusal.number();
                 write!(f, "refused {number}")
             }
         }

@@ -4,7 +4,7 @@ ghost use Rattle.words.specs.Lines.{lines_in};
 ghost use Rattle.queries.specs.Read.{asks_more, all_asked, WrongIn};
 ghost use Rattle.queries.specs.declared.query.Query as query;
 
-use crate::query::{Query, asked};
+use crate::query::{Query, query_of};
 use operands::{Fault, Operands, Reader, Wrong, read_text};
 use std::alloc::Global;
 
@@ -22,7 +22,7 @@ impl Reader for Asked {
     ghost adds = { asks_more };
 
     fn add<'a>(&mut self, _heap: Global, words: Operands<'_, 'a>) -> Result<(), Fault<'a>> {
-        self.queries.push(asked(words)?)?;
+        self.queries.push(query_of(words.words())?)?;
         Ok(())
     }
 }

@@ -81,7 +81,7 @@ fn quantizer<'a>(words: Operands<'_, 'a>) -> Result<Query, Malformed<'a>>
 }
 
 // The question that the words ask, as `query_of` says.
-pub(crate) fn asked<'a>(words: Operands<'_, 'a>) -> Result<Query, Malformed<'a>>
+fn asked<'a>(words: Operands<'_, 'a>) -> Result<Query, Malformed<'a>>
     ensures { result_ok result ≡ asked (words_of words.entry) }
 {
     match words.name() {

@@ -33,14 +33,24 @@ impl From<NoSuchSampling> for Refusal {
     }
 }
 
-// The number that stands for the refusal in every interface: 4 for a depth, 5 for a sampling.
+impl Refusal {
+    // The number that stands for the refusal in every interface: 4 for a depth, 5 for a sampling. A method, since a crate
+    // that knows this type only as another passes it on can call it, and cannot reach a conversion.
+    pub fn number(self) -> u8
+        ensures { result ≡ number self }
+    {
+        match self {
+            Refusal::NoSuchDepth => 4,
+            Refusal::NoSuchSampling => 5,
+        }
+    }
+}
+
+// The same number.
 impl From<Refusal> for u8 {
     ghost from_gives = { λ refusal n. n ≡ number refusal };
 
     fn from(refusal: Refusal) -> Self {
-        match refusal {
-            Refusal::NoSuchDepth => 4,
-            Refusal::NoSuchSampling => 5,
-        }
+        refusal.number()
     }
 }

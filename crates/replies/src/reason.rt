@@ -1,5 +1,6 @@
 // Why a line is refused.
-ghost use Rattle.std.specs.Prelude.{◌≡◌};
+ghost use Rattle.std.specs.Prelude.{◌≡◌, Some};
+ghost use Rattle.std.specs.Fmt.{decimal};
 ghost use Rattle.replies.specs.Reasons.{number};
 ghost use Rattle.replies.specs.declared.reason.Reason.TheVariants as variants;
 
@@ -52,7 +53,7 @@ impl From<Reason> for u8 {
 
     fn from(reason: Reason) -> u8 {
         match reason {
-            Reason::Opening(refusal) => refusal.into(),
+            Reason::Opening(refusal) => refusal.number(),
             Reason::Call(refusal) => refusal.into(),
             Reason::Outlook(refusal) => refusal.into(),
             Reason::Stair(refusal) => refusal.into(),
@@ -60,7 +61,10 @@ impl From<Reason> for u8 {
     }
 }
 
+// A reason is told by its number.
 impl fmt::Display for Reason {
+    ghost output = { λ reason. Some (decimal (number reason)) };
+
     fn fmt<W: fmt::Write>(&self, f: &mut fmt::Formatter<W>) -> fmt::Result {
         let number = u8::from(*self);
         write!(f, "{number}")

@@ -157,7 +157,7 @@ fn refused_opening(heap: Global, curve: Curve, settings: Settings) -> Option<u8>
     match run(heap, &settings, curve, &outlooks, &[Call::Status]) {
         Ok(_) => None,
         Err(NotRun { fault, model: _ }) => match fault {
-            Fault::Opening(refusal) => Some(refusal.into()),
+            Fault::Opening(refusal) => Some(refusal.number()),
             Fault::Memory => None,
         },
     }

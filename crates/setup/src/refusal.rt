@@ -45,12 +45,13 @@ impl From<NoSuchSampling> for Refusal {
     }
 }
 
-// The number of the question: 1 to 8, in the order in which they are asked.
-impl From<Refusal> for u8 {
-    ghost from_gives = { λ refusal n. n ≡ number refusal };
-
-    fn from(refusal: Refusal) -> Self {
-        match refusal {
+impl Refusal {
+    // The number of the question: 1 to 8, in the order in which they are asked. A method, since a crate that knows this
+    // type only as `model` passes it on can call it, and cannot reach a conversion.
+    pub fn number(self) -> u8
+        ensures { result ≡ number self }
+    {
+        match self {
             Refusal::Size => 1,
             Refusal::Rate => 2,
             Refusal::Bitrate => 3,
@@ -60,5 +61,14 @@ impl From<Refusal> for u8 {
             Refusal::Timing => 7,
             Refusal::Limit => 8,
         }
+    }
+}
+
+// The same number.
+impl From<Refusal> for u8 {
+    ghost from_gives = { λ refusal n. n ≡ number refusal };
+
+    fn from(refusal: Refusal) -> Self {
+        refusal.number()
     }
 }

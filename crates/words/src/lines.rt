@@ -37,7 +37,16 @@ fn before_comment(line: &str) -> &str
 pub fn words_of<'a>(heap: Global, line: &'a str) -> Result<Vec<&'a str>, AllocError>
     ensures { IfOk result (λ ws. texts ws.items ≡ words_in line.now) }
 {
-    before_comment(line).split_ascii_whitespace().collect(heap)
+    let mut words = Vec::new(heap);
+    let mut rest = before_comment(line).trim_ascii_start();
+    while let Some(at) = rest.bytes().position(|b| b.is_ascii_whitespace()) {
+        words.push(&rest[..at])?;
+        rest = rest[at + 1..].trim_ascii_start();
+    }
+    if !rest.is_empty() {
+        words.push(rest)?;
+    }
+    Ok(words)
 }
 
 // The lines of a text, cut at each line feed; what follows the last one is a line too. A carriage
@@ -45,7 +54,14 @@ pub fn words_of<'a>(heap: Global, line: &'a str) -> Result<Vec<&'a str>, AllocEr
 pub fn lines_of<'a>(heap: Global, text: &'a str) -> Result<Vec<&'a str>, AllocError>
     ensures { IfOk result (λ ls. texts ls.items ≡ lines_in text.now) }
 {
-    text.split('\n').collect(heap)
+    let mut lines = Vec::new(heap);
+    let mut rest = text;
+    while let Some(at) = rest.bytes().position(|b| b == b'\n') {
+        lines.push(&rest[..at])?;
+        rest = &rest[at + 1..];
+    }
+    lines.push(rest)?;
+    Ok(lines)
 }
 
 // The lines of a text that a line feed ends.
