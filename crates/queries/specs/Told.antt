@@ -1,6 +1,6 @@
 -- What a question is answered, by the definitions of the logarithm, the exponential and the quantizer.
 use Rattle.std.specs.Prelude.{ℕ, List, ◌++◌, Ok, Err, Result, Some, None, Option, codes}
-use Rattle.std.specs.Fmt.{decimal}
+use Rattle.std.specs.Fmt.{decimal, signed_decimal}
 use Rattle.logexp.specs.LogExp.{bexp64, blog64}
 use Rattle.quantize.specs.declared.answer.Refusal.{Refusal}
 use Rattle.quantize.specs.Call.{number, and_then, answer, select_answer, quantizer_answer}
@@ -17,7 +17,14 @@ told (Q c d i) = and_then (answer c i d) (λ e. Ok (Entry e))
 told (SelectQi c d q) = and_then (select_answer c q d) (λ i. Ok (Index i))
 told (Quantizer q d s i m) = and_then (quantizer_answer q q d s i m) (λ p. Ok (Parameters p))
 
--- what is printed for a refusal: `refused` and its number. Of an accepted answer nothing is said
+-- how an answer is written: its number; of a frame's quantizer, whose scales are floating numbers, nothing is said
+abbrev pub answer_text : Answer → Option (List ℕ)
+answer_text (Log n) = Some (signed_decimal n)
+answer_text (Entry n) = Some (decimal n)
+answer_text (Index n) = Some (decimal n)
+answer_text (Parameters p) = None
+
+-- what is printed for a question: the text of its answer, or `refused` and the number of the refusal
 abbrev pub outcome_text : Result Answer Refusal → Option (List ℕ)
-outcome_text (Ok a) = None
+outcome_text (Ok a) = answer_text a
 outcome_text (Err r) = Some (codes "refused " ++ decimal (number r))

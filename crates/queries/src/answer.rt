@@ -1,6 +1,6 @@
 // What a question is answered, and how the answer is written.
 ghost use Rattle.std.specs.Prelude.{◌≡◌};
-ghost use Rattle.queries.specs.Told.{told, outcome_text};
+ghost use Rattle.queries.specs.Told.{told, answer_text, outcome_text};
 
 use crate::query::Query;
 use logexp::{bexp64, blog64};
@@ -50,6 +50,8 @@ pub fn answer_to(query: Query) -> Result<Answer, Refusal>
 }
 
 impl fmt::Display for Answer {
+    ghost output = { answer_text };
+
     fn fmt<W: fmt::Write>(&self, f: &mut fmt::Formatter<W>) -> fmt::Result {
         match self {
             Answer::Log(n) => write!(f, "{n}"),

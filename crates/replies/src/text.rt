@@ -1,9 +1,14 @@
 // How replies are written.
+ghost use Rattle.std.specs.Prelude.{Some};
+ghost use Rattle.replies.specs.Texts.{name_text, reply_text};
+
 use crate::reply::{Name, Reply};
 use calls::{Decision, Reported, Status};
 use std::fmt;
 
 impl fmt::Display for Name {
+    ghost output = { λ name. Some (name_text name) };
+
     fn fmt<W: fmt::Write>(&self, f: &mut fmt::Formatter<W>) -> fmt::Result {
         f.write_str(match self {
             Name::Curve => "curve",
@@ -22,6 +27,8 @@ impl fmt::Display for Name {
 }
 
 impl fmt::Display for Reply {
+    ghost output = { reply_text };
+
     fn fmt<W: fmt::Write>(&self, f: &mut fmt::Formatter<W>) -> fmt::Result {
         match *self {
             Reply::Accepted(name) => write!(f, "{name} ok"),
